@@ -1,6 +1,6 @@
 //! Why a record of the airport file or of the scenario file is refused, and which names there are.
 
-use crate::files::{are_regular, shown_path, text_of};
+use cdm_ask::{are_regular, shown_path, text_of};
 use crate::names::{first_day, names_after, near_flights};
 use cdm_check::FilePaths;
 use cdm_command::{Command, DayFiles};

@@ -4,32 +4,31 @@
 ghost use Rattle.std.specs.Prelude.{◌≡◌, false, true};
 
 mod console;
-mod ending;
 mod explaining;
-mod files;
 mod names;
 mod refused;
+mod shown;
 mod standard;
+mod unended;
 
 use crate::console::Console;
-use crate::ending::{Ending, Unended};
 use crate::explaining::explanation;
-use crate::files::{open, open_named, shown, shown_path, unopened};
 use crate::refused::tell_refused;
+use crate::shown::ShownPaths;
 use crate::standard::{Closed, Standard, unread};
-use cdm_check::FilePaths;
-pub use cdm_command::{Command, CommandFault, DayFiles, command_of};
+use crate::unended::Unended;
+use cdm_ask::{Answer, Job, Question, answer, job_of, open, shown, unopened};
+pub use cdm_command::{Command, CommandFault, command_of};
 use cdm_day::Airport;
 pub use cdm_fault::{
     Fault, OpenReason, UnopenedFile, report_command_fault, report_fault, run_status,
 };
 use cdm_feed::{
-    Asked, CarryText, CommonFault, Counted, Device, Input, Lent, RunError, WriteFault, airport_of,
-    read_whole, run_asked, write_text,
+    Asked, CommonFault, Device, Input, RunError, WriteFault, airport_of, read_whole, write_text,
 };
 use cdm_kinds::{Format, kinds_text};
 pub use cdm_live::{LiveCounts, LiveError, run_live};
-use cdm_phase::{OpenGate, Workers};
+use cdm_phase::OpenGate;
 use cdm_port::{OpenFault, OpenJournal, Streams};
 use cdm_serve::{ServeError, serve};
 use std::alloc::{AllocError, Global};
@@ -183,31 +182,21 @@ where
     R: AllocGlobal + Files<File = File> + io::Input + Threads + Wait + Sync,
     requires { out.old.failed ≡ false }
 {
-    match command {
-        Command::Tell {
-            files,
-            text,
-            workers,
-            is_strict,
-        } => {
-            let asked = Asked::Day(*text);
-            let counted = make(rt, *files, &asked, *workers, out, console)?;
-            Ok(run_status(&counted, *is_strict))
-        }
-        Command::Check { files, format } => check(rt, *files, *format, out, console),
-        Command::Live {
+    let paths = ShownPaths::of(rt.alloc(), command)?;
+    match job_of(paths.paths(), command) {
+        Job::Ask(question) => ask(rt, &question, out, console),
+        Job::Live {
             airport,
             feed1,
             feed2,
         } => live(rt, [airport, feed1, feed2], out, console),
-        Command::Carry { files, text } => carry(rt, *files, *text, out, console),
-        Command::Serve {
+        Job::Serve {
             airport,
             journal,
             format,
-        } => serve_day(rt, [airport, journal], *format, out, console),
-        Command::Kinds(format) => print(&kinds_text(rt.alloc(), *format)?, out),
-        Command::Print(text) => print(text.as_bytes(), out),
+        } => serve_day(rt, [airport, journal], format, out, console),
+        Job::Kinds(format) => print(&kinds_text(rt.alloc(), format)?, out),
+        Job::Print(text) => print(text.as_bytes(), out),
     }
 }
 
@@ -219,97 +208,41 @@ fn print<W: Write>(text: &[u8], out: &mut Device<W>) -> Result<u8, Fault>
     Ok(0)
 }
 
-// Writes what is asked of these files, and answers what it counts. A person is told of a feed whose last line has no end, where a check
-// doesn't tell it, and how many records a plan has refused.
-fn make<R: AllocGlobal + Files + io::Input + Threads + Sync, W: Write, E: Write>(
+// Writes what is asked of the files of a question, and answers the exit status. A person is told of a feed whose last line has no end, where
+// a check doesn't tell it, and how many records a plan has refused.
+fn ask<R: AllocGlobal + Files + io::Input + Threads + Sync, W: Write, E: Write>(
     rt: &R,
-    files: DayFiles<'_>,
-    asked: &Asked<'_>,
-    workers: Workers,
+    question: &Question<'_>,
     out: &mut Device<W>,
     console: &mut Console<'_, E>,
-) -> Result<Counted, Fault>
+) -> Result<u8, Fault>
     requires { out.old.failed ≡ false }
     ensures silent { console.old.is_terminal ≡ false → console.new ≡ console.old }
 {
-    let airport = &mut Device::new(open(rt, files.airport, Input::Airport)?);
-    let mut ending = Ending::new(open(rt, files.feed, Input::Feed)?);
-    let third = &mut Device::new(open_named(rt, files.third, asked.third_input())?);
-    let lent = Lent {
-        rt,
-        alloc: rt.alloc(),
-        workers,
-        gate: &OpenGate,
-    };
-    let feed = &mut Device::new(&mut ending);
-    let counted = run_asked(&lent, asked, airport, feed, third, out);
-    tell_unended_feed(asked, &ending, console);
+    let Answer { feed, counted, .. } = answer(rt, question, out)?;
+    tell_unended_feed(&question.asked, feed.lacks_end(), console);
     let counted = counted?;
-    tell_refused(files, asked, &counted, console);
-    Ok(counted)
+    tell_refused(question.files, &question.asked, &counted, console);
+    Ok(run_status(&counted, question.is_strict))
 }
 
-// Tells a person that the last line of the feed has no end. A check tells it itself.
-fn tell_unended_feed<F, E: Write>(asked: &Asked<'_>, feed: &Ending<F>, console: &mut Console<'_, E>)
+// Tells a person that the last line of the feed has no end, if it lacks one. A check tells it itself.
+fn tell_unended_feed<E: Write>(asked: &Asked<'_>, lacks_end: bool, console: &mut Console<'_, E>)
     ensures silent { console.old.is_terminal ≡ false → console.new ≡ console.old }
 {
     match asked {
-        Asked::Day(_) | Asked::Carry(_) => tell_unended(feed, Input::Feed, console),
+        Asked::Day(_) | Asked::Carry(_) => tell_unended(lacks_end, Input::Feed, console),
         Asked::Check(..) => {}
     }
 }
 
 // Tells a person that the last line of a feed has no end, where that is so: it may be the first part of another record.
-fn tell_unended<F, E: Write>(feed: &Ending<F>, input: Input, console: &mut Console<'_, E>)
+fn tell_unended<E: Write>(lacks_end: bool, input: Input, console: &mut Console<'_, E>)
     ensures silent { console.old.is_terminal ≡ false → console.new ≡ console.old }
 {
-    if feed.lacks_end() {
+    if lacks_end {
         console.tell(&Unended(input));
     }
-}
-
-// Writes what is wrong with the files, and answers the exit status.
-fn check<R: AllocGlobal + Files + io::Input + Threads + Sync, W: Write, E: Write>(
-    rt: &R,
-    files: DayFiles<'_>,
-    format: Format,
-    out: &mut Device<W>,
-    console: &mut Console<'_, E>,
-) -> Result<u8, Fault>
-    requires { out.old.failed ≡ false }
-    ensures silent { console.old.is_terminal ≡ false → console.new ≡ console.old }
-{
-    let alloc = rt.alloc();
-    let one = Workers::new(1).unwrap();
-    let airport = shown_path(alloc, files.airport)?;
-    let feed = shown_path(alloc, files.feed)?;
-    let scenarios = shown_path(alloc, files.third.unwrap_or_default())?;
-    let scenarios = files.third.map(|_| scenarios.as_str());
-    let paths = FilePaths {
-        airport: &airport,
-        feed: &feed,
-        scenarios,
-    };
-    let asked = Asked::Check(paths, format);
-    let counted = make(rt, files, &asked, one, out, console)?;
-    Ok(run_status(&counted, false))
-}
-
-// Writes what the next day has of a day, as a feed, or what a person must know before. Answers the exit status: 4 where a person
-// has to see to something.
-fn carry<R: AllocGlobal + Files + io::Input + Threads + Sync, W: Write, E: Write>(
-    rt: &R,
-    files: DayFiles<'_>,
-    text: CarryText,
-    out: &mut Device<W>,
-    console: &mut Console<'_, E>,
-) -> Result<u8, Fault>
-    requires { out.old.failed ≡ false }
-    ensures silent { console.old.is_terminal ≡ false → console.new ≡ console.old }
-{
-    let one = Workers::new(1).unwrap();
-    let counted = make(rt, files, &Asked::Carry(text), one, out, console)?;
-    Ok(run_status(&counted, false))
 }
 
 // Serves the day of an airport: records come from standard input, and replies go to `out`. Answers
@@ -326,7 +259,7 @@ where
 {
     let alloc = rt.alloc();
     let [airport, journal] = paths;
-    let airport = airport_read(alloc, open(rt, airport, Input::Airport)?)?;
+    let airport = airport_read(alloc, open(rt, airport, Input::Airport)?.into_device())?;
     let Ok(input) = BufReader::new(alloc, rt.reader()) else {
         return Err(Fault::NoMemory);
     };
@@ -342,8 +275,10 @@ where
 }
 
 // The airport of a file, which is read to its end.
-fn airport_read<A: Read + Drop>(alloc: Global, file: A) -> Result<Airport, ServeError> {
-    let bytes = read_whole(alloc, Input::Airport, &mut Device::new(file))?;
+fn airport_read<A: Read + Drop>(alloc: Global, mut file: Device<A>) -> Result<Airport, ServeError>
+    requires { file.failed ≡ false }
+{
+    let bytes = read_whole(alloc, Input::Airport, &mut file)?;
     let airport = airport_of(alloc, &bytes)?;
     Ok(airport)
 }
@@ -385,20 +320,20 @@ fn live<R: AllocGlobal + Files + io::Input + Threads + Wait + Sync, W: Write, E:
     ensures silent { console.old.is_terminal ≡ false → console.new ≡ console.old }
 {
     let [airport, feed1, feed2] = paths;
-    let airport = open(rt, airport, Input::Airport)?;
-    let mut feed1 = Ending::new(open(rt, feed1, Input::Feed1)?);
-    let mut feed2 = Ending::new(open(rt, feed2, Input::Feed2)?);
+    let mut airport = open(rt, airport, Input::Airport)?.into_device();
+    let mut feed1 = open(rt, feed1, Input::Feed1)?.into_device();
+    let mut feed2 = open(rt, feed2, Input::Feed2)?.into_device();
     let done = run_live(
         rt,
         rt.alloc(),
-        &mut Device::new(airport),
-        &mut Device::new(&mut feed1),
-        &mut Device::new(&mut feed2),
+        &mut airport,
+        &mut feed1,
+        &mut feed2,
         &OpenGate,
         out,
     );
-    tell_unended(&feed1, Input::Feed1, console);
-    tell_unended(&feed2, Input::Feed2, console);
+    tell_unended(feed1.into_inner().lacks_end(), Input::Feed1, console);
+    tell_unended(feed2.into_inner().lacks_end(), Input::Feed2, console);
     done?;
     Ok(0)
 }

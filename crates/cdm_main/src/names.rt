@@ -1,6 +1,6 @@
 //! The names that there are, where a command names another.
 
-use crate::files::{are_regular, is_regular, text_of};
+use cdm_ask::{are_regular, is_regular, text_of};
 use cdm_command::DayFiles;
 use cdm_fault::Fault;
 use cdm_feed::{Asked, DayText};

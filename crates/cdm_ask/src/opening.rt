@@ -1,7 +1,10 @@
 //! The files that the words name.
+ghost use Rattle.std.specs.Prelude.{◌≡◌, IfOk, Some};
+ghost use Rattle.cdm_ask.specs.Opening.{unread};
 
 use cdm_command::{DayFiles, STANDARD_INPUT};
 use cdm_fault::{Fault, OpenReason, PathText, ShownPath, UnopenedFile};
+use crate::named::Named;
 use cdm_feed::{Asked, Device, Input, Lent, run_asked};
 use cdm_phase::{OpenGate, Workers};
 use either::Either;
@@ -12,13 +15,43 @@ use std::thread::Threads;
 use std::{fs, io};
 
 /// A file, or standard input. The latter is boxed, since each move of its buffer would take room on the stack.
-pub(crate) type Opened<R> = Either<<R as Files>::File, Box<<R as io::Input>::Reader>>;
+pub type Opened<R> = Either<<R as Files>::File, Box<<R as io::Input>::Reader>>;
+
+/// Such a file, or nothing where none is named.
+pub type OpenedOrEmpty<R> = Either<Opened<R>, &'static [u8]>;
 
 /// What the system answers where this process, or all processes, have as many open files as they may have.
 const TOO_MANY_FILES: [i32; 2] = [24, 23];
 
-/// Opens a file, or takes standard input where that is its name. A folder is no file. A fault is named as the input.
-pub(crate) fn open<R: AllocGlobal + Files + io::Input>(
+/// Opens the file of this path as this input. A fault is one of opening it, or want of memory.
+pub fn open<'a, R: AllocGlobal + Files + io::Input>(
+    rt: &R,
+    path: &'a str,
+    input: Input,
+) -> Result<Named<'a, Opened<R>>, Fault>
+    ensures { IfOk result (λ file. file ≡ unread (Some path.now) input) }
+{
+    let file = open_file(rt, path, input)?;
+    Ok(Named::new(Some(path), input, file))
+}
+
+/// Opens the file of this path as this input, if one is named. Without one the input has no byte.
+pub fn open_named<'a, R: AllocGlobal + Files + io::Input>(
+    rt: &R,
+    path: Option<&'a str>,
+    input: Input,
+) -> Result<Named<'a, OpenedOrEmpty<R>>, Fault>
+    ensures { IfOk result (λ file. file ≡ unread path input) }
+{
+    let file = match path {
+        Some(path) => Either::Left(open_file(rt, path, input)?),
+        None => Either::Right(&[]),
+    };
+    Ok(Named::new(path, input, file))
+}
+
+// Opens a file, or takes standard input where that is its name. A folder is no file. A fault is named as the input.
+fn open_file<R: AllocGlobal + Files + io::Input>(
     rt: &R,
     path: &str,
     input: Input,
@@ -51,12 +84,12 @@ fn reason_of(error: &io::Error) -> OpenReason {
 }
 
 /// A path of its own, for a line.
-pub(crate) fn shown(alloc: Global, path: &str) -> Result<ShownPath, AllocError> {
+pub fn shown(alloc: Global, path: &str) -> Result<ShownPath, AllocError> {
     Ok(ShownPath(String::from_str(alloc, path)?))
 }
 
 /// A file that can't be opened for this reason.
-pub(crate) fn unopened(
+pub fn unopened(
     alloc: Global,
     path: &str,
     reason: OpenReason,
@@ -65,29 +98,17 @@ pub(crate) fn unopened(
     Ok(UnopenedFile { path, reason })
 }
 
-/// Opens the file of an input, if one is named. Without one the input has no record.
-pub(crate) fn open_named<R: AllocGlobal + Files + io::Input>(
-    rt: &R,
-    path: Option<&str>,
-    input: Input,
-) -> Result<Either<Opened<R>, &'static [u8]>, Fault> {
-    match path {
-        Some(path) => Ok(Either::Left(open(rt, path, input)?)),
-        None => Ok(Either::Right(&[])),
-    }
-}
-
 /// What is asked of the airport file, the third file and this feed, if there is one, as a text in memory.
-pub(crate) fn text_of<R: AllocGlobal + Files + io::Input + Threads + Sync>(
+pub fn text_of<R: AllocGlobal + Files + io::Input + Threads + Sync>(
     rt: &R,
     files: DayFiles<'_>,
     feed: Option<&str>,
     asked: &Asked<'_>,
 ) -> Result<String, Fault> {
     let alloc = rt.alloc();
-    let airport = &mut Device::new(open(rt, files.airport, Input::Airport)?);
-    let feed = &mut Device::new(open_named(rt, feed, Input::Feed)?);
-    let third = &mut Device::new(open_named(rt, files.third, asked.third_input())?);
+    let airport = &mut open(rt, files.airport, Input::Airport)?.into_device();
+    let feed = &mut open_named(rt, feed, Input::Feed)?.into_device();
+    let third = &mut open_named(rt, files.third, asked.third_input())?.into_device();
     let lent = Lent {
         rt,
         alloc,
@@ -101,12 +122,12 @@ pub(crate) fn text_of<R: AllocGlobal + Files + io::Input + Threads + Sync>(
 }
 
 /// Whether the airport file and the third file are regular files, which can be read a second time.
-pub(crate) fn are_regular<R: Files>(rt: &R, files: DayFiles<'_>) -> bool {
+pub fn are_regular<R: Files>(rt: &R, files: DayFiles<'_>) -> bool {
     is_regular(rt, files.airport) && files.third.is_none_or(|path| is_regular(rt, path))
 }
 
 /// Whether a path names a regular file, which can be read a second time.
-pub(crate) fn is_regular<R: Files>(rt: &R, path: &str) -> bool {
+pub fn is_regular<R: Files>(rt: &R, path: &str) -> bool {
     if path == STANDARD_INPUT {
         return false;
     }
@@ -117,7 +138,7 @@ pub(crate) fn is_regular<R: Files>(rt: &R, path: &str) -> bool {
 }
 
 /// A path as the lines of a check show it.
-pub(crate) fn shown_path(alloc: Global, path: &str) -> Result<String, AllocError> {
+pub fn shown_path(alloc: Global, path: &str) -> Result<String, AllocError> {
     let path = PathText(path);
     format!(in alloc; "{path}")
 }

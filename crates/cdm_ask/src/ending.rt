@@ -2,13 +2,12 @@
 ghost use Rattle.std.specs.Io.{ReadsAtMost};
 ghost use Rattle.std.specs.Io.KnownBytes.{ReadConsumes};
 
-use cdm_feed::Input;
+use std::io;
 use std::io::Read;
-use std::{fmt, io};
 
 /// A reader that remembers the last byte that it gave, and whether it came to its end.
 #[derive(Drop)]
-pub(crate) struct Ending<R> {
+pub struct Ending<R> {
     inner: R,
     last: Option<u8>,
     ended: bool,
@@ -25,7 +24,7 @@ impl<R> Ending<R> {
     }
 
     /// Whether all was read, and the last line has no LF.
-    pub(crate) fn lacks_end(&self) -> bool {
+    pub fn lacks_end(&self) -> bool {
         self.ended && self.last.is_some_and(|byte| byte != b'\n')
     }
 }
@@ -40,15 +39,5 @@ impl<R: Read> Read for Ending<R> {
             None => self.ended |= !buf.is_empty(),
         }
         Ok(count)
-    }
-}
-
-/// The last line of this feed has no end.
-#[derive(Clone, Copy)]
-pub(crate) struct Unended(pub(crate) Input);
-
-impl fmt::Display for Unended {
-    fn fmt<W: fmt::Write>(&self, f: &mut fmt::Formatter<W>) -> fmt::Result {
-        write!(f, "cdmseq: {}: its last line has no end", self.0)
     }
 }

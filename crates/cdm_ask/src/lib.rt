@@ -1,0 +1,17 @@
+//! What a command opens, as which input, and what is made of it.
+#![tactic(auto)]
+
+mod asking;
+mod ending;
+mod job;
+mod named;
+mod opening;
+
+pub use asking::{Answer, answer};
+pub use ending::Ending;
+pub use job::{Job, Question, job_of};
+pub use named::Named;
+pub use opening::{
+    Opened, OpenedOrEmpty, are_regular, is_regular, open, open_named, shown, shown_path, text_of,
+    unopened,
+};
