@@ -4,9 +4,9 @@ ghost use Rattle.cdm_files.specs.Device.{Passes};
 ghost use Rattle.cdm_files.specs.RunFaults.{is_write_fault};
 ghost use Rattle.cdm_ask.specs.Opening.{AreOpened, IsMadeOf};
 
+use crate::job::Question;
 use crate::named::Named;
 use crate::opening::{Opened, OpenedOrEmpty, open, open_named};
-use crate::job::Question;
 use cdm_fault::Fault;
 use cdm_feed::{Counted, Device, Input, Lent, RunError, run_asked};
 use cdm_phase::OpenGate;
@@ -30,7 +30,7 @@ pub struct Answer<'a, A, F, T> {
 
 /// Opens the files of a question, and writes the text that is asked of them. A fault is one of opening a file, or want of memory for it:
 /// then nothing is written. What stops the run after that is in the answer.
-pub fn answer<'a, R: AllocGlobal + Files + io::Input + Threads + Sync, W: Write>(
+pub fn answer_of<'a, R: AllocGlobal + Files + io::Input + Threads + Sync, W: Write>(
     rt: &R,
     question: &Question<'a>,
     out: &mut Device<W>,

@@ -14,7 +14,7 @@ pub struct Named<'a, F> {
     pub(crate) device: Device<Ending<F>>,
 }
 
-impl<F> Model for Named<'_, F> {
+impl<'a, F> Model for Named<'a, F> {
     ghost Value = { OpenedFile };
 
     ghost view = { λ n. record { path = n.path; input = n.input; failed = n.device.failed; given = n.device.passed } };
@@ -32,13 +32,15 @@ impl<'a, F> Named<'a, F> {
         }
     }
 
-    /// Whether all was read, and the last line has no LF.
-    pub fn lacks_end(self) -> bool {
-        self.device.into_inner().lacks_end()
-    }
-
     /// What was opened, in its device.
     pub fn into_device(self) -> Device<Ending<F>> {
         self.device
+    }
+}
+
+impl<F: Drop> Named<'_, F> {
+    /// Whether all was read, and the last line has no LF.
+    pub fn lacks_end(self) -> bool {
+        self.device.into_inner().lacks_end()
     }
 }

@@ -2,9 +2,9 @@
 ghost use Rattle.std.specs.Prelude.{◌≡◌, IfOk, Some};
 ghost use Rattle.cdm_ask.specs.Opening.{unread};
 
+use crate::named::Named;
 use cdm_command::{DayFiles, STANDARD_INPUT};
 use cdm_fault::{Fault, OpenReason, PathText, ShownPath, UnopenedFile};
-use crate::named::Named;
 use cdm_feed::{Asked, Device, Input, Lent, run_asked};
 use cdm_phase::{OpenGate, Workers};
 use either::Either;
@@ -43,11 +43,20 @@ pub fn open_named<'a, R: AllocGlobal + Files + io::Input>(
 ) -> Result<Named<'a, OpenedOrEmpty<R>>, Fault>
     ensures { IfOk result (λ file. file ≡ unread path input) }
 {
-    let file = match path {
-        Some(path) => Either::Left(open_file(rt, path, input)?),
-        None => Either::Right(&[]),
-    };
+    let file = file_or_empty(rt, path, input)?;
     Ok(Named::new(path, input, file))
+}
+
+// Opens a file, if one is named.
+fn file_or_empty<R: AllocGlobal + Files + io::Input>(
+    rt: &R,
+    path: Option<&str>,
+    input: Input,
+) -> Result<OpenedOrEmpty<R>, Fault> {
+    match path {
+        Some(path) => Ok(Either::Left(open_file(rt, path, input)?)),
+        None => Ok(Either::Right(&[])),
+    }
 }
 
 // Opens a file, or takes standard input where that is its name. A folder is no file. A fault is named as the input.
@@ -89,11 +98,7 @@ pub fn shown(alloc: Global, path: &str) -> Result<ShownPath, AllocError> {
 }
 
 /// A file that can't be opened for this reason.
-pub fn unopened(
-    alloc: Global,
-    path: &str,
-    reason: OpenReason,
-) -> Result<UnopenedFile, AllocError> {
+pub fn unopened(alloc: Global, path: &str, reason: OpenReason) -> Result<UnopenedFile, AllocError> {
     let path = String::from_str(alloc, path)?;
     Ok(UnopenedFile { path, reason })
 }

@@ -1,7 +1,7 @@
 //! Why a record of the airport file or of the scenario file is refused, and which names there are.
 
-use cdm_ask::{are_regular, shown_path, text_of};
 use crate::names::{first_day, names_after, near_flights};
+use cdm_ask::{are_regular, shown_path, text_of};
 use cdm_check::FilePaths;
 use cdm_command::{Command, DayFiles};
 use cdm_fault::Fault;

@@ -17,7 +17,7 @@ use crate::refused::tell_refused;
 use crate::shown::ShownPaths;
 use crate::standard::{Closed, Standard, unread};
 use crate::unended::Unended;
-use cdm_ask::{Answer, Job, Question, answer, job_of, open, shown, unopened};
+use cdm_ask::{Answer, Job, Question, answer_of, job_of, open, shown, unopened};
 pub use cdm_command::{Command, CommandFault, command_of};
 use cdm_day::Airport;
 pub use cdm_fault::{
@@ -184,7 +184,7 @@ where
 {
     let paths = ShownPaths::of(rt.alloc(), command)?;
     match job_of(paths.paths(), command) {
-        Job::Ask(question) => ask(rt, &question, out, console),
+        Job::Ask(question) => run_question(rt, &question, out, console),
         Job::Live {
             airport,
             feed1,
@@ -210,7 +210,7 @@ fn print<W: Write>(text: &[u8], out: &mut Device<W>) -> Result<u8, Fault>
 
 // Writes what is asked of the files of a question, and answers the exit status. A person is told of a feed whose last line has no end, where
 // a check doesn't tell it, and how many records a plan has refused.
-fn ask<R: AllocGlobal + Files + io::Input + Threads + Sync, W: Write, E: Write>(
+fn run_question<R: AllocGlobal + Files + io::Input + Threads + Sync, W: Write, E: Write>(
     rt: &R,
     question: &Question<'_>,
     out: &mut Device<W>,
@@ -219,7 +219,7 @@ fn ask<R: AllocGlobal + Files + io::Input + Threads + Sync, W: Write, E: Write>(
     requires { out.old.failed ≡ false }
     ensures silent { console.old.is_terminal ≡ false → console.new ≡ console.old }
 {
-    let Answer { feed, counted, .. } = answer(rt, question, out)?;
+    let Answer { feed, counted, .. } = answer_of(rt, question, out)?;
     tell_unended_feed(&question.asked, feed.lacks_end(), console);
     let counted = counted?;
     tell_refused(question.files, &question.asked, &counted, console);
