@@ -7,7 +7,7 @@ mod job;
 mod named;
 mod opening;
 
-pub use asking::{Answer, answer_of};
+pub use asking::{Answer, Ended, answer_of};
 pub use ending::Ending;
 pub use job::{Job, Question, job_of};
 pub use named::Named;

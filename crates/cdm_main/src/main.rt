@@ -17,12 +17,10 @@ use crate::refused::tell_refused;
 use crate::shown::ShownPaths;
 use crate::standard::{Closed, Standard, unread};
 use crate::unended::Unended;
-use cdm_ask::{Answer, Job, Question, answer_of, job_of, open, shown, unopened};
+use cdm_ask::{Answer, Ended, Job, Question, answer_of, job_of, open, shown, unopened};
 pub use cdm_command::{Command, CommandFault, command_of};
 use cdm_day::Airport;
-pub use cdm_fault::{
-    Fault, OpenReason, UnopenedFile, report_command_fault, report_fault, run_status,
-};
+pub use cdm_fault::{Fault, OpenReason, UnopenedFile, report_command_fault, report_fault};
 use cdm_feed::{
     Asked, CommonFault, Device, Input, RunError, WriteFault, airport_of, read_whole, write_text,
 };
@@ -219,11 +217,11 @@ fn run_question<R: AllocGlobal + Files + io::Input + Threads + Sync, W: Write, E
     requires { out.old.failed ≡ false }
     ensures silent { console.old.is_terminal ≡ false → console.new ≡ console.old }
 {
-    let Answer { feed, counted, .. } = answer_of(rt, question, out)?;
+    let Answer { feed, ended, .. } = answer_of(rt, question, out)?;
     tell_unended_feed(&question.asked, feed.lacks_end(), console);
-    let counted = counted?;
+    let Ended { counted, status } = ended?;
     tell_refused(question.files, &question.asked, &counted, console);
-    Ok(run_status(&counted, question.is_strict))
+    Ok(status)
 }
 
 // Tells a person that the last line of the feed has no end, if it lacks one. A check tells it itself.
