@@ -6,6 +6,7 @@ mod ending;
 mod job;
 mod named;
 mod opening;
+mod serving;
 
 pub use asking::{Answer, Ended, answer_of};
 pub use ending::Ending;
@@ -15,3 +16,4 @@ pub use opening::{
     Opened, OpenedOrEmpty, are_regular, is_regular, open, open_named, shown, shown_path, text_of,
     unopened,
 };
+pub use serving::served;

@@ -17,7 +17,7 @@ use crate::refused::tell_refused;
 use crate::shown::ShownPaths;
 use crate::standard::{Closed, Standard, unread};
 use crate::unended::Unended;
-use cdm_ask::{Answer, Ended, Job, Question, answer_of, job_of, open, shown, unopened};
+use cdm_ask::{Answer, Ended, Job, Question, answer_of, job_of, open, served, shown, unopened};
 pub use cdm_command::{Command, CommandFault, command_of};
 use cdm_day::Airport;
 pub use cdm_fault::{Fault, OpenReason, UnopenedFile, report_command_fault, report_fault};
@@ -28,7 +28,7 @@ use cdm_kinds::{Format, kinds_text};
 pub use cdm_live::{LiveCounts, LiveError, run_live};
 use cdm_phase::OpenGate;
 use cdm_port::{OpenFault, OpenJournal, Streams};
-use cdm_serve::{ServeError, serve};
+use cdm_serve::ServeError;
 use std::alloc::{AllocError, Global};
 use std::fs::File;
 use std::io::{BufReader, ErrorKind, IsTerminal, Read, Write};
@@ -263,13 +263,12 @@ where
     };
     let journal = open_journal(rt, journal)?;
     let mut streams = Streams::new(input, &mut *out, &mut console.errors, journal);
-    let served = serve(rt, alloc, airport, format, &mut streams);
+    let status = served(rt, alloc, airport, format, &mut streams);
     let mut journal = streams.into_journal();
-    if served.is_err() {
+    if status.is_err() {
         journal.give_up();
     }
-    served?;
-    Ok(0)
+    status
 }
 
 // The airport of a file, which is read to its end.
