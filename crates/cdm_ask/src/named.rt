@@ -33,7 +33,10 @@ impl<'a, F> Named<'a, F> {
     }
 
     /// What was opened, in its device.
-    pub fn into_device(self) -> Device<Ending<F>> {
+    pub fn into_device(self) -> Device<Ending<F>>
+        ensures failed { result.failed ≡ self.failed }
+        ensures passed { result.passed ≡ self.given }
+    {
         self.device
     }
 }

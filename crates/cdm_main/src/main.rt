@@ -2,27 +2,34 @@
 #![tactic(auto)]
 
 ghost use Rattle.std.specs.Prelude.{◌≡◌, false, true};
+ghost use Rattle.cdm_fault.specs.Statuses.{status_of_fault};
 
 mod console;
 mod explaining;
 mod names;
 mod refused;
 mod shown;
+mod stack;
 mod standard;
 mod unended;
 
 use crate::console::Console;
-use crate::explaining::explanation;
+use crate::explaining::{explanation, wrong_feed};
 use crate::refused::tell_refused;
 use crate::shown::ShownPaths;
+use crate::stack::short_stack;
 use crate::standard::{Closed, Standard, unread};
 use crate::unended::Unended;
 use cdm_ask::{Answer, Ended, Job, Question, answer_of, job_of, open, served, shown, unopened};
-pub use cdm_command::{Command, CommandFault, command_of};
+pub use cdm_command::{Command, CommandFault, DayFiles, command_of};
 use cdm_day::Airport;
-pub use cdm_fault::{Fault, OpenReason, UnopenedFile, report_command_fault, report_fault};
+pub use cdm_fault::{
+    Fault, OpenReason, ServedFiles, UnopenedFile, report_command_fault, report_fault,
+    report_served_fault,
+};
 use cdm_feed::{
-    Asked, CommonFault, Device, Input, RunError, WriteFault, airport_of, read_whole, write_text,
+    Asked, CommonFault, Counted, Device, Input, RunError, WriteFault, airport_of, read_whole,
+    write_text,
 };
 use cdm_kinds::{Format, kinds_text};
 pub use cdm_live::{LiveCounts, LiveError, run_live};
@@ -43,6 +50,11 @@ const LONGEST_WORD: usize = 131_072;
 
 fn main(rt: HostRuntime) -> ExitCode {
     let standard = Standard::fill(&rt);
+    if let Some(bytes) = short_stack(&rt) {
+        let fault = Fault::ShortStack(bytes);
+        let errors = &mut Device::new(rt.stderr());
+        return ExitCode::from(report_fault(&fault, errors));
+    }
     let mut out = Device::new(rt.stdout());
     let errors = rt.stderr();
     let is_terminal = errors.is_terminal();
@@ -57,7 +69,8 @@ fn main(rt: HostRuntime) -> ExitCode {
 }
 
 // Runs the command that the program's words name, and answers the exit status. Texts go to `out`,
-// and what stops the program is told on `errors`, which may be a terminal.
+// and what stops the program is told on `errors`, which may be a terminal. It isn't a part of `main`, so that this needs little stack.
+#[inline(never)]
 fn status_of<R, O: Write, E: Write + Drop>(
     rt: &R,
     closed: Closed,
@@ -123,16 +136,36 @@ fn stop<R: AllocGlobal + Files + io::Input + Threads + Sync, E: Write>(
     console: &mut Console<'_, E>,
 ) -> u8 {
     if !console.is_terminal {
-        return report_fault(fault, &mut console.errors);
+        return report(command, fault, console);
     }
     match explanation(rt, command, fault) {
         Ok(Some(line)) => {
-            let status = report_fault(fault, &mut console.errors);
+            let status = report(command, fault, console);
             console.tell(&line);
             status
         }
-        Ok(None) => report_fault(fault, &mut console.errors),
-        Err(memory) => report_fault(&memory, &mut console.errors),
+        Ok(None) => report(command, fault, console),
+        Err(memory) => report(command, &memory, console),
+    }
+}
+
+// Tells the fault that stops a command, and answers the exit status.
+fn report<E: Write>(command: &Command<'_>, fault: &Fault, console: &mut Console<'_, E>) -> u8
+    ensures { result ≡ status_of_fault fault.now }
+{
+    match command {
+        Command::Serve {
+            airport,
+            journal,
+            ..
+        } => {
+            let files = ServedFiles {
+                airport: *airport,
+                journal: *journal,
+            };
+            report_served_fault(fault, files, &mut console.errors)
+        }
+        _ => report_fault(fault, &mut console.errors),
     }
 }
 
@@ -221,7 +254,26 @@ fn run_question<R: AllocGlobal + Files + io::Input + Threads + Sync, W: Write, E
     tell_unended_feed(&question.asked, feed.lacks_end(), console);
     let Ended { counted, status } = ended?;
     tell_refused(question.files, &question.asked, &counted, console);
+    tell_wrong_feed(rt, question.files, &counted, console);
     Ok(status)
+}
+
+// Tells a person of a day whose feed is another file, of which no record is accepted.
+fn tell_wrong_feed<R: AllocGlobal + Files + io::Input + Threads + Sync, E: Write>(
+    rt: &R,
+    files: DayFiles<'_>,
+    counted: &Counted,
+    console: &mut Console<'_, E>,
+)
+    ensures silent { console.old.is_terminal ≡ false → console.new ≡ console.old }
+{
+    let counts = counted.of_day();
+    if !console.is_terminal || counts.refused == 0 || counts.accepted > 0 {
+        return;
+    }
+    if let Ok(Some(line)) = wrong_feed(rt, files) {
+        console.tell(&line);
+    }
 }
 
 // Tells a person that the last line of the feed has no end, if it lacks one. A check tells it itself.
