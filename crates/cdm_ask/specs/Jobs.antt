@@ -1,18 +1,24 @@
 -- What a command does, by its words.
-use Rattle.std.specs.Prelude.{false}
+use Rattle.std.specs.Prelude.{◌≡◌, ℕ, List, false}
+use Rattle.std_alloc.specs.String.{string_bytes}
 use Rattle.cdm_check.specs.declared.paths.FilePaths.{FilePaths}
 use Rattle.cdm_feed.specs.declared.asked.Asked.TheVariants as ask
 use Rattle.cdm_command.specs.declared.command.Command.{Command}
 use Rattle.cdm_command.specs.declared.command.Command.TheVariants as command
 use Rattle.cdm_ask.specs.declared.job.Job.{Job}
-use Rattle.cdm_ask.specs.declared.job.Job.TheVariants as job
+use Rattle.cdm_ask.specs.declared.job.Job.TheVariants as does
 
--- what a command does; a check tells its files by these paths
-abbrev pub job_of : FilePaths → Command → Job
-job_of paths (command.Tell files text workers is_strict) = job.Ask (record { files = files; asked = ask.Day text; workers = workers; is_strict = is_strict })
-job_of paths (command.Check files format) = job.Ask (record { files = files; asked = ask.Check paths format; workers = 1; is_strict = false })
-job_of paths (command.Carry files text) = job.Ask (record { files = files; asked = ask.Carry text; workers = 1; is_strict = false })
-job_of paths (command.Live airport feed1 feed2) = job.Live airport feed1 feed2
-job_of paths (command.Serve airport journal format) = job.Serve airport journal format
-job_of paths (command.Kinds format) = job.Kinds format
-job_of paths (command.Print text) = job.Print text
+-- it prints this text
+abbrev pub Prints : List ℕ → Job → Type 0
+Prints text (does.Print printed) = printed.now ≡ text
+Prints text other = ⊥
+
+-- this is what a command does; a check tells its files by these paths
+abbrev pub IsJobOf : FilePaths → Command → Job → Type 0
+IsJobOf paths (command.Tell files text workers is_strict) = λ job. job ≡ does.Ask (record { files = files; asked = ask.Day text; workers = workers; is_strict = is_strict })
+IsJobOf paths (command.Check files format) = λ job. job ≡ does.Ask (record { files = files; asked = ask.Check paths format; workers = 1; is_strict = false })
+IsJobOf paths (command.Carry files text) = λ job. job ≡ does.Ask (record { files = files; asked = ask.Carry text; workers = 1; is_strict = false })
+IsJobOf paths (command.Live airport feed1 feed2) = λ job. job ≡ does.Live airport feed1 feed2
+IsJobOf paths (command.Serve airport journal format) = λ job. job ≡ does.Serve airport journal format
+IsJobOf paths (command.Kinds format) = λ job. job ≡ does.Kinds format
+IsJobOf paths (command.Print text) = Prints (string_bytes text)

@@ -1,5 +1,6 @@
 -- The inputs that are opened for a run, and what the run makes of what they give.
-use Rattle.std.specs.Prelude.{◌≡◌, ⊤, ⊥, ℕ, Bool, false, List, [], Option, Some}
+use Rattle.std.specs.Prelude.{◌≡◌, ⊤, ℕ, Bool, false, List, [], Option, Some}
+use Rattle.std.specs.Option.{option_copied}
 use Rattle.cdm_files.specs.declared.common_fault.Input.{Input}
 use Rattle.cdm_files.specs.declared.common_fault.Input.TheVariants.{Airport, Feed}
 use Rattle.cdm_feed.specs.Inputs.{third_input}
@@ -27,9 +28,9 @@ IsOpenedAt path input file = (file.path ≡ path) × (file.input ≡ input)
 
 -- each file of a day was opened as the input that it is to what is asked
 pub record AreOpened (files : DayFiles) (asked : Asked) (airport feed third : OpenedFile) : Type 0 where
-  pub is_airport : IsOpenedAt (Some files.airport) Airport airport
-  pub is_feed : IsOpenedAt (Some files.feed) Feed feed
-  pub is_third : IsOpenedAt files.third (third_input asked) third
+  pub is_airport : IsOpenedAt (Some files.airport.now) Airport airport
+  pub is_feed : IsOpenedAt (Some files.feed.now) Feed feed
+  pub is_third : IsOpenedAt (option_copied files.third) (third_input asked) third
 
 -- a text of which this holds is the one that is made, for what is asked, of the bytes that three files gave
 pub record IsMadeOf (asked : Asked) (airport feed third : OpenedFile) (counted : Counted) (IsWritten : List ℕ → Type 0) : Type 0 where

@@ -1,6 +1,5 @@
 //! What a command does.
-ghost use Rattle.std.specs.Prelude.{◌≡◌};
-ghost use Rattle.cdm_ask.specs.Jobs.{job_of};
+ghost use Rattle.cdm_ask.specs.Jobs.{IsJobOf};
 
 use cdm_check::FilePaths;
 use cdm_command::{Command, DayFiles};
@@ -46,7 +45,7 @@ pub enum Job<'a> {
 
 /// What a command does. A check tells its files by these paths.
 pub fn job_of<'a>(paths: FilePaths<'a>, command: &'a Command<'a>) -> Job<'a>
-    ensures { result ≡ job_of paths command.now }
+    ensures { IsJobOf paths command.now result }
 {
     let one = Workers::new(1).unwrap();
     match command {

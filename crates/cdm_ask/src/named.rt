@@ -1,5 +1,6 @@
 //! An input by the path at which it was opened.
 ghost use Rattle.std.specs.Prelude.{◌≡◌};
+ghost use Rattle.std.specs.Option.{option_copied};
 ghost use Rattle.cdm_ask.specs.Opening.{OpenedFile, unread};
 
 use crate::ending::Ending;
@@ -17,13 +18,13 @@ pub struct Named<'a, F> {
 impl<'a, F> Model for Named<'a, F> {
     ghost Value = { OpenedFile };
 
-    ghost view = { λ n. record { path = n.path; input = n.input; failed = n.device.failed; given = n.device.passed } };
+    ghost view = { λ n. record { path = option_copied n.path; input = n.input; failed = n.device.failed; given = n.device.passed } };
 }
 
 impl<'a, F> Named<'a, F> {
     // What was opened at this path, as this input. Nothing of it was read yet.
     pub(crate) fn new(path: Option<&'a str>, input: Input, file: F) -> Named<'a, F>
-        ensures { result ≡ unread path input }
+        ensures { result ≡ unread (option_copied path) input }
     {
         Named {
             path,

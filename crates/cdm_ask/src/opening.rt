@@ -1,5 +1,6 @@
 //! The files that the words name.
 ghost use Rattle.std.specs.Prelude.{◌≡◌, IfOk, Some};
+ghost use Rattle.std.specs.Option.{option_copied};
 ghost use Rattle.cdm_ask.specs.Opening.{unread};
 
 use crate::named::Named;
@@ -41,7 +42,7 @@ pub fn open_named<'a, R: AllocGlobal + Files + io::Input>(
     path: Option<&'a str>,
     input: Input,
 ) -> Result<Named<'a, OpenedOrEmpty<R>>, Fault>
-    ensures { IfOk result (λ file. file ≡ unread path input) }
+    ensures { IfOk result (λ file. file ≡ unread (option_copied path) input) }
 {
     let file = file_or_empty(rt, path, input)?;
     Ok(Named::new(path, input, file))

@@ -25,6 +25,8 @@ pub fn served<R: Threads + Sync, P: Port>(
     ensures status { IfOk result (λ status. status ≡ 0) }
     ensures fault { IfErr result IsServeStop }
 {
-    serve(rt, alloc, airport, format, port)?;
-    Ok(0)
+    match serve(rt, alloc, airport, format, port) {
+        Ok(()) => Ok(0),
+        Err(error) => Err(Fault::Serve(error)),
+    }
 }
