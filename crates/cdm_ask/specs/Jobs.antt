@@ -1,6 +1,5 @@
 -- What a command does, by its words.
-use Rattle.std.specs.Prelude.{◌≡◌, ℕ, List, false}
-use Rattle.std_alloc.specs.String.{string_bytes}
+use Rattle.std.specs.Prelude.{◌≡◌, ℕ, List, false, string_bytes}
 use Rattle.cdm_check.specs.declared.paths.FilePaths.{FilePaths}
 use Rattle.cdm_feed.specs.declared.asked.Asked.TheVariants as ask
 use Rattle.cdm_command.specs.declared.command.Command.{Command}

@@ -45,7 +45,7 @@ pub enum Job<'a> {
 
 /// What a command does. A check tells its files by these paths.
 pub fn job_of<'a>(paths: FilePaths<'a>, command: &'a Command<'a>) -> Job<'a>
-    ensures { IsJobOf paths command.now result }
+    ensures { IsJobOf paths.entry command.now result }
 {
     let one = Workers::new(1).unwrap();
     match command {

@@ -24,7 +24,7 @@ impl<'a, F> Model for Named<'a, F> {
 impl<'a, F> Named<'a, F> {
     // What was opened at this path, as this input. Nothing of it was read yet.
     pub(crate) fn new(path: Option<&'a str>, input: Input, file: F) -> Named<'a, F>
-        ensures { result ≡ unread (option_copied path) input }
+        ensures { result ≡ unread (option_copied path.entry) input }
     {
         Named {
             path,
@@ -35,8 +35,8 @@ impl<'a, F> Named<'a, F> {
 
     /// What was opened, in its device.
     pub fn into_device(self) -> Device<Ending<F>>
-        ensures failed { result.failed ≡ self.failed }
-        ensures passed { result.passed ≡ self.given }
+        ensures failed { result.failed ≡ self.entry.failed }
+        ensures passed { result.passed ≡ self.entry.given }
     {
         self.device
     }

@@ -42,7 +42,7 @@ pub fn open_named<'a, R: AllocGlobal + Files + io::Input>(
     path: Option<&'a str>,
     input: Input,
 ) -> Result<Named<'a, OpenedOrEmpty<R>>, Fault>
-    ensures { IfOk result (λ file. file ≡ unread (option_copied path) input) }
+    ensures { IfOk result (λ file. file ≡ unread (option_copied path.entry) input) }
 {
     let file = file_or_empty(rt, path, input)?;
     Ok(Named::new(path, input, file))
