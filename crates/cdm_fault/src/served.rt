@@ -22,12 +22,12 @@ pub struct ServedFiles<'a> {
 
 // A fault of a day that is served with these files.
 #[derive(Clone, Copy)]
-struct ServedFault<'a> {
-    fault: &'a Fault,
-    files: ServedFiles<'a>,
+struct ServedFault<'f, 'p> {
+    fault: &'f Fault,
+    files: ServedFiles<'p>,
 }
 
-impl Display for ServedFault<'_> {
+impl Display for ServedFault<'_, '_> {
     fn fmt<W: fmt::Write>(&self, f: &mut Formatter<W>) -> fmt::Result {
         let fault = self.fault;
         let (airport, journal) = (PathText(self.files.airport), PathText(self.files.journal));
