@@ -2,6 +2,7 @@
 #![tactic(auto)]
 
 ghost use Rattle.std.specs.Prelude.{◌≡◌, false, true};
+ghost use Rattle.cdm_fault.specs.Statuses.{status_of_fault};
 
 mod console;
 mod ending;
@@ -13,7 +14,7 @@ mod standard;
 
 use crate::console::Console;
 use crate::ending::{Ending, Unended};
-use crate::explaining::explanation;
+use crate::explaining::{explanation, wrong_feed};
 use crate::files::{open, open_named, shown, shown_path, unopened};
 use crate::refused::tell_refused;
 use crate::standard::{Closed, Standard, unread};
@@ -21,7 +22,8 @@ use cdm_check::FilePaths;
 pub use cdm_command::{Command, CommandFault, DayFiles, command_of};
 use cdm_day::Airport;
 pub use cdm_fault::{
-    Fault, OpenReason, UnopenedFile, report_command_fault, report_fault, run_status,
+    Fault, OpenReason, ServedFiles, UnopenedFile, report_command_fault, report_fault,
+    report_served_fault, run_status,
 };
 use cdm_feed::{
     Asked, CarryText, CommonFault, Counted, Device, Input, Lent, RunError, WriteFault, airport_of,
@@ -126,16 +128,36 @@ fn stop<R: AllocGlobal + Files + io::Input + Threads + Sync, E: Write>(
     console: &mut Console<'_, E>,
 ) -> u8 {
     if !console.is_terminal {
-        return report_fault(fault, &mut console.errors);
+        return report(command, fault, console);
     }
     match explanation(rt, command, fault) {
         Ok(Some(line)) => {
-            let status = report_fault(fault, &mut console.errors);
+            let status = report(command, fault, console);
             console.tell(&line);
             status
         }
-        Ok(None) => report_fault(fault, &mut console.errors),
-        Err(memory) => report_fault(&memory, &mut console.errors),
+        Ok(None) => report(command, fault, console),
+        Err(memory) => report(command, &memory, console),
+    }
+}
+
+// Tells the fault that stops a command, and answers the exit status.
+fn report<E: Write>(command: &Command<'_>, fault: &Fault, console: &mut Console<'_, E>) -> u8
+    ensures { result ≡ status_of_fault fault.now }
+{
+    match command {
+        Command::Serve {
+            airport,
+            journal,
+            ..
+        } => {
+            let files = ServedFiles {
+                airport: *airport,
+                journal: *journal,
+            };
+            report_served_fault(fault, files, &mut console.errors)
+        }
+        _ => report_fault(fault, &mut console.errors),
     }
 }
 
@@ -246,7 +268,26 @@ fn make<R: AllocGlobal + Files + io::Input + Threads + Sync, W: Write, E: Write>
     tell_unended_feed(asked, &ending, console);
     let counted = counted?;
     tell_refused(files, asked, &counted, console);
+    tell_wrong_feed(rt, files, &counted, console);
     Ok(counted)
+}
+
+// Tells a person of a day whose feed is another file, of which no record is accepted.
+fn tell_wrong_feed<R: AllocGlobal + Files + io::Input + Threads + Sync, E: Write>(
+    rt: &R,
+    files: DayFiles<'_>,
+    counted: &Counted,
+    console: &mut Console<'_, E>,
+)
+    ensures silent { console.old.is_terminal ≡ false → console.new ≡ console.old }
+{
+    let counts = counted.of_day();
+    if !console.is_terminal || counts.refused == 0 || counts.accepted > 0 {
+        return;
+    }
+    if let Ok(Some(line)) = wrong_feed(rt, files) {
+        console.tell(&line);
+    }
 }
 
 // Tells a person that the last line of the feed has no end. A check tells it itself.
