@@ -19,10 +19,10 @@ use std::alloc::{AllocError, Global};
 use std::convert::AsStr;
 use thiserror::Error;
 
-/// The name of a file that is standard input.
+/// The path that means standard input.
 pub const STANDARD_INPUT: &str = "-";
 
-/// The paths of the files of a day, and of the one that is read after them, if there is one.
+/// The paths of the files of a day, and of the third file, if there is one.
 #[derive(Clone, Copy, PartialEq, Eq, Debug)]
 pub struct DayFiles<'a> {
     /// The airport file.
@@ -48,34 +48,34 @@ impl DayFiles<'_> {
     }
 }
 
-/// What the words ask for. Files are named by their paths, one at most as [`STANDARD_INPUT`].
+/// What the command line asks for. Files are given by their paths; at most one is [`STANDARD_INPUT`].
 #[derive(PartialEq, Eq, Debug, Drop)]
 pub enum Command<'a> {
-    /// Tell this of the day that a feed makes at an airport, and of its scenarios, by so many workers. If it is strict, the exit status
-    /// says whether a record of the feed is refused, or the feed has none.
+    /// Print this text about the day of an airport file and a feed, and about its scenarios, with this many workers. If `is_strict`, the
+    /// exit status says whether a record of the feed was refused or the feed has none.
     Tell {
         files: DayFiles<'a>,
         text: DayText,
         workers: Workers,
         is_strict: bool,
     },
-    /// Check the files of a day at an airport, and of its scenarios.
+    /// Check the airport file, the feed and, if there is one, the scenario file.
     Check {
         files: DayFiles<'a>,
         format: Format,
     },
-    /// Let two desks post a feed each to one board, at an airport.
+    /// Run two desks concurrently on one board: each posts one of the feeds.
     Live {
         airport: &'a str,
         feed1: &'a str,
         feed2: &'a str,
     },
-    /// Carry a day over to the airport of the next day: write this of its files, of which the third is the next airport file.
+    /// Carry a day over, and print this text. The third file is the next airport file.
     Carry {
         files: DayFiles<'a>,
         text: CarryText,
     },
-    /// Serve the day of an airport as it happens, with a journal. Standard input has the records.
+    /// Run a day in real time, with a journal. The records come from standard input.
     Serve {
         airport: &'a str,
         journal: &'a str,
@@ -88,7 +88,7 @@ pub enum Command<'a> {
 }
 
 impl Command<'_> {
-    /// The first of the files that is standard input, as the input that it is.
+    /// Which input is standard input: that of the first file that is [`STANDARD_INPUT`], if there is one.
     pub fn standard_input(&self) -> Option<Input> {
         match self {
             Command::Tell { files, .. } | Command::Check { files, .. } => {
@@ -124,10 +124,10 @@ impl Command<'_> {
     }
 }
 
-/// Why the words ask for nothing that can be done.
+/// Why a command line asks for nothing that can be done.
 #[derive(Debug, Drop, Error)]
 pub enum CommandFault {
-    /// What is wrong with the words.
+    /// A usage error: the text that explains it.
     #[error("{0}")]
     Usage(String),
     /// Want of memory.

@@ -1,4 +1,4 @@
-//! The command line: what its words ask for, its helps and the manual.
+//! The command line: its arguments, the help texts and the manual.
 #![tactic(auto)]
 
 mod command;

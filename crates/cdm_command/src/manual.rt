@@ -1,4 +1,4 @@
-//! What the program tells of itself, its files and its output.
+//! What the program says about itself, its files and its output.
 
 use cdm_kinds::{Kind, role_name};
 use std::alloc::{AllocError, Global};

@@ -1,4 +1,4 @@
-//! The words that the program and each command take.
+//! The arguments that the program and each command take.
 
 use crate::manual::{
     ABOUT, CARRY_ABOUT, CARRY_EXAMPLE, CAUSES_ABOUT, CAUSES_EXAMPLE, CHECK_ABOUT, CHECK_EXAMPLE,

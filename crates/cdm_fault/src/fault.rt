@@ -1,4 +1,4 @@
-//! What stops the program, and how it is told.
+//! What stops the program, with its message and its exit status.
 ghost use Rattle.std.specs.Prelude.{◌≡◌};
 ghost use Rattle.cdm_fault.specs.Statuses.{status_of_command_fault, status_of_common, status_of_fault, status_of_run};
 ghost use Rattle.cdm_fault.specs.declared.fault.Fault.TheVariants as fault;
@@ -63,8 +63,9 @@ impl From<AllocError> for Fault {
 }
 
 impl Fault {
-    /// The exit status: 2 where the words name a time of another day, 3 where an input is refused, is missing though it was served, or doesn't
-    /// know what is asked for, and 1 where a file can't be opened, a device fails, memory is short or the board gives a wrong answer.
+    /// The exit status: 2 if an argument names a time of another day; 3 if an input is refused, a journal that was served is missing, or
+    /// what is asked about isn't known; 1 if a file can't be opened, a read or write fails, memory runs out, or the board and a desk
+    /// differ.
     pub fn status(&self) -> u8
         ensures { result ≡ status_of_fault self.now }
     {
@@ -107,8 +108,8 @@ fn common_status(fault: CommonFault) -> u8
     }
 }
 
-/// The exit status of a run that has written its text: 4 where a check refuses a record, where a person has to see to something before the
-/// next day, and, if it is strict, where a day refuses a record of the feed or the feed has none.
+/// The exit status of a run that has written its text: 4 if a check found a refused record, if a person has to see to something before
+/// the next day, or, if `is_strict`, if the day refuses a record of the feed or the feed has none; otherwise 0.
 pub fn run_status(counted: &Counted, is_strict: bool) -> u8
     ensures { result ≡ status_of_run is_strict counted.now }
 {
@@ -120,7 +121,7 @@ pub fn run_status(counted: &Counted, is_strict: bool) -> u8
     }
 }
 
-/// Writes the fault's line, and answers its exit status, also where the line can't be written.
+/// Writes the fault's line, and returns its exit status, even if the line can't be written.
 pub fn report_fault<W: Write>(fault: &Fault, device: &mut Device<W>) -> u8
     ensures { result ≡ status_of_fault fault.now }
 {
@@ -128,8 +129,7 @@ pub fn report_fault<W: Write>(fault: &Fault, device: &mut Device<W>) -> u8
     fault.status()
 }
 
-/// Writes the text of wrong words, or the line of want of memory, and answers the exit status, also where
-/// that can't be written.
+/// Writes the text of a usage error, or the line of want of memory, and returns the exit status, even if that can't be written.
 pub fn report_command_fault<W: Write>(fault: &CommandFault, device: &mut Device<W>) -> u8
     ensures { result ≡ status_of_command_fault fault.now }
 {

@@ -2,8 +2,8 @@
 use std::fmt;
 use std::fmt::{Display, Formatter, Write};
 
-/// A word as a shell reads it back: as it is, in quotes where the shell would take it apart, and with `\xHH` in place of each byte of a control
-/// character. A path that begins with `-` gets `./`, so that it is no option.
+/// A word that a shell reads back as one word: as it is, or in quotes if the shell would split it. Each byte of a control character is
+/// shown as `\xHH`. A path that begins with `-` gets `./` before it, so that it isn't read as an option.
 #[derive(Clone, Copy, Debug)]
 pub struct ShellWord<'a>(pub &'a str);
 

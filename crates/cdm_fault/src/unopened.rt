@@ -8,11 +8,11 @@ use std::io::ErrorKind;
 pub enum OpenReason {
     /// The process or the system has as many open files as it may have.
     TooManyFiles,
-    /// What the system says of it.
+    /// The reason that the system reports.
     Told(ErrorKind),
 }
 
-/// A file that can't be opened. It is shown as its path and the reason, where the system tells one.
+/// A file that can't be opened. It is shown as its path and, if the system reports one, the reason.
 #[derive(PartialEq, Eq, Debug, Drop)]
 pub struct UnopenedFile {
     /// The file's path.
@@ -33,7 +33,7 @@ impl Display for UnopenedFile {
     }
 }
 
-/// A path of its own, as [`PathText`] shows it.
+/// A path that is owned, shown like a [`PathText`].
 #[derive(PartialEq, Eq, Debug, Drop)]
 pub struct ShownPath(pub String);
 

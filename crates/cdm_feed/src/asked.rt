@@ -1,4 +1,4 @@
-//! What is asked of a run.
+//! What a run is asked for.
 ghost use Rattle.std.specs.Prelude.{◌≡◌};
 ghost use Rattle.cdm_feed.specs.Inputs.{third_input};
 
@@ -12,7 +12,7 @@ use cdm_shift::DayQuestion;
 use cdm_table::Table;
 use cdm_trace::Since;
 
-/// What is told of a day, which an airport file and a feed make, and of the scenarios of a scenario file over it.
+/// A text about the day that an airport file and a feed make, and about the scenarios of a scenario file over this day.
 #[derive(Clone, Copy, PartialEq, Eq, Debug)]
 pub enum DayText {
     /// The plan of the day with the feed's refused records, and then the answer to each scenario: a report, or a line of JSON each.
@@ -23,18 +23,19 @@ pub enum DayText {
     Picture,
     /// The answer to a question of the day, or of the day with all updates of the scenario of this name.
     Answer(DayQuestion, Option<ScenarioName>, Format),
-    /// Which records of the feed moved whose start-up, or that of one flight, from the first on that made it this time or later.
+    /// Which records of the feed changed which flights, or this one flight. The list begins with the first record after which the clock
+    /// is at this time or later.
     Trace(Option<FlightName>, Option<Since>, Format),
 }
 
-/// What is asked of a run.
+/// What a run is asked for.
 #[derive(Clone, Copy, Debug)]
 pub enum Asked<'a> {
-    /// What is told of the day.
+    /// A text about the day.
     Day(DayText),
     /// What is wrong with the files, which have these paths.
     Check(FilePaths<'a>, Format),
-    /// What the next day has of the day, or what a person must know before it begins.
+    /// The feed with which the next day begins, or what a person must know before.
     Carry(CarryText),
 }
 

@@ -12,12 +12,12 @@ pub enum Counted {
     Day(RunCounts),
     /// Of a check.
     Check(CheckCounts),
-    /// Of a day that is carried over: whether a person has to see to something that the text tells.
+    /// For a day that is carried over: whether the text says something that a person has to see to.
     Carry { needs_care: bool },
 }
 
 impl Counted {
-    /// What is counted of a day, and nothing of any other text.
+    /// The counts of a day; zeros for any other text.
     pub fn of_day(self) -> RunCounts
         ensures { result ≡ day_counts self }
     {

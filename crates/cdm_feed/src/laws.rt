@@ -4,12 +4,12 @@ ghost use Rattle.cdm_feed.specs.Made.{HaveOne};
 ghost use Rattle.cdm_feed.specs.Output.{HaveOneText};
 ghost use Rattle.cdm_feed.specs.declared.asked.Asked.{Asked};
 
-/// The bytes of an airport file, of a feed and of a scenario file have one text at most.
+/// For the bytes of an airport file, a feed and a scenario file there is at most one text.
 pub fn one_text()
     ensures { (airport feed scenarios : List ℕ) → HaveOneText airport feed scenarios }
 {}
 
-/// So have the bytes of three files of whatever is asked for, but for a picture and a check.
+/// For the bytes of three files there is at most one text of whatever is asked for, except of a picture and of a check.
 pub fn one_text_each()
     ensures { (asked : Asked) (airport feed third : List ℕ) → HaveOne asked airport feed third }
 {}

@@ -1,4 +1,4 @@
-//! What is made of whole inputs.
+//! Texts, made from complete inputs.
 ghost use Rattle.std.specs.Prelude.{◌≡◌, ◌≤◌, List, None, Some, Ok, length, IfErr, IfOk, OnOk};
 ghost use Rattle.cdm_flight.specs.Journal.{flight_of};
 ghost use Rattle.cdm_files.specs.AirportFile.{airport_in};

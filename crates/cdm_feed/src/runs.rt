@@ -31,16 +31,16 @@ pub struct RunCounts {
     pub scenarios: usize,
 }
 
-/// Makes what is asked for: reads the airport file, the feed and the third file, makes the one text of their bytes, and writes it.
-/// The third file is the scenario file, or where a day is carried over the next airport file. Where no scenario file is asked for, its
-/// reader has no byte. The text depends on what is asked for and on the bytes of the inputs alone, whatever the workers and the gate do.
+/// Makes what is asked for: reads the airport file, the feed and the third file, makes the one text of their bytes, and writes it. The
+/// third file is the scenario file or, if a day is carried over, the next airport file. If no scenario file is asked for, its reader is
+/// empty. The text depends on what is asked for and on the bytes of the inputs alone, whatever the workers and the gate do.
 ///
-/// `Ok` has read the three inputs to their ends, answers what is counted, and has written the whole text and flushed it.
-/// Faults in their order: `Read` and `TooLong` of the airport file, of the feed and of the third file; `Airport`, and `Scenario` or
-/// `NextAirport`, the first faulty record of that file and its word, unless a check is asked for, to which these are findings;
-/// `NextDay`, where the next airport's day isn't the day after; `NoFlight`, `NoRunway` and `NoScenario`, where what is asked for isn't
-/// known; `OtherDay`, where it is asked from a time of another day on; `Update`, the first refused update of the scenario that is asked
-/// for; `Memory`, wherever memory was first refused; `Write`. Before `Write` nothing was written, and at `Write` a prefix of the text was.
+/// At `Ok` the three inputs were read to their ends, and the whole text was written and flushed. It returns the counts. Faults in their
+/// order: `Read` and `TooLong` of the airport file, of the feed and of the third file; `Airport`, and `Scenario` or `NextAirport`, the
+/// first faulty record of that file and its word, unless a check is asked for, to which these are findings; `NextDay`, where the next
+/// airport's day isn't the day after; `NoFlight`, `NoRunway` and `NoScenario`, where what is asked for isn't known; `OtherDay`, where it
+/// is asked from a time of another day on; `Update`, the first refused update of the scenario that is asked for; `Memory`, wherever
+/// memory was first refused; `Write`. Before `Write` nothing was written, and at `Write` a prefix of the text was.
 pub fn run_asked<R: Threads + Sync, A: Read, F: Read, T: Read, G: Gate, W: Write>(
     lent: &Lent<'_, R, G>,
     asked: &Asked<'_>,

@@ -1,4 +1,4 @@
-//! Standard error, and what is written there for people alone.
+//! Standard error, and the lines that are written there for people only.
 ghost use Rattle.std.specs.Prelude.{◌≡◌, false};
 
 use cdm_feed::Device;

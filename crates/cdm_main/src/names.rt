@@ -1,4 +1,4 @@
-//! The names that there are, where a command names another.
+//! The names that exist, for a command that names an unknown one.
 
 use cdm_ask::{are_regular, is_regular, text_of};
 use cdm_command::DayFiles;

@@ -1,4 +1,4 @@
-//! What is told of the refused records of a plan.
+//! The line for people about the refused records of a plan.
 ghost use Rattle.std.specs.Prelude.{◌≡◌, false};
 
 use crate::console::Console;

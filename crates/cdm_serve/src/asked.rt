@@ -15,12 +15,12 @@ use cdm_view::{Question, ViewFault, answer};
 use std::alloc::{AllocError, Global};
 use std::fmt::Write;
 
-/// What is asked of a served day (local profile).
+/// A question to a served day (local profile).
 #[derive(Clone, Copy, PartialEq, Eq, Debug)]
 pub enum Asked {
     /// The report of the plan.
     Plan,
-    /// What holds a flight, or how full a runway is.
+    /// What delays or blocks a flight, or how full a runway is.
     View(Question),
 }
 

@@ -1,4 +1,4 @@
-//! What is done for an answer, in its order.
+//! The steps that an answer asks for, in their order.
 ghost use Rattle.std.specs.Prelude.{◌≡◌, [], ◌∷◌, ◌++◌, OnErr, OnOk};
 ghost use Rattle.cdm_port.specs.Event.Event.{Flushed, Replied};
 ghost use Rattle.cdm_port.specs.Fault.{fault_after};

@@ -18,7 +18,7 @@ use csv::ByteRecord;
 pub enum Request {
     /// Nothing: the line is blank.
     Nothing,
-    /// A record is posted: its role and its update, or the word that refuses it in itself.
+    /// A record is posted: its role and its update, or the word that refuses it whatever the day is.
     Post(Result<(Role, Update), RefusalWord>),
     /// A question is asked.
     Ask(Asked),
@@ -72,8 +72,8 @@ fn request_in(day: Day, row: &ByteRecord) -> Request
     }
 }
 
-/// What a line asks for, as it was read: a question by its first field, `PLAN`, `WHY` or `LOAD`, else a record. A
-/// line of several records is refused with Fields.
+/// What a line that was read asks for: a question if its first field is `PLAN`, `WHY` or `LOAD`, otherwise a record. A line with several
+/// records is refused with Fields.
 pub fn request_of(day: Day, read: &LineRead) -> Request
     ensures { result ≡ request_of day (read_as read.now) }
 {

@@ -65,8 +65,8 @@ fn serve_lines<P: Port>(
 /// each reply is flushed before the next line is read. The replies are texts for people or lines of JSON, by the format.
 /// `Ok` comes at the input's end.
 ///
-/// `Journal` where a record of the journal is refused, and then the journal is as it was; `TooMany` where a line's
-/// number would be greater than a `u32`; `Port` where the port fails, and `Common` for want of memory.
+/// `Journal`: a record of the journal is refused, and the journal is as it was. `TooMany`: a line's number wouldn't fit into a `u32`.
+/// `Port`: the port failed. `Common`: memory ran out.
 pub fn serve<R: Threads + Sync, P: Port>(
     rt: &R,
     alloc: Global,
