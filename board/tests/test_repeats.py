@@ -209,6 +209,8 @@ def test_each_folder_of_cases_has_a_line():
     listed, status = told(ROOT / "tools/cases")
     assert status == 0 and "\none_flight  0  plan airport.csv feed.csv\n    one flight takes off at TOBT plus EXOT\n" in listed
     assert told(ROOT / "tools/cases", "carry", "the day after the last one of a year")[0].splitlines()[0] == "carry: 1"
+    shown = re.search(r"`tools/cases ([\w ]+)` lists those", (ROOT / "cases/README.md").read_text())
+    assert shown is not None and re.match(r"carry: [1-9]", told(ROOT / "tools/cases", *shown[1].split())[0])
 
 
 def test_a_folder_without_a_line_is_found(tmp_path):
