@@ -63,6 +63,13 @@ def test_the_scripts_are_clean(words):
     assert ended.returncode == 0, ended.stdout
 
 
+@pytest.mark.parametrize("script", ["prove", "test", "changed", "package", *(f"tools/{name}" for name in ("figures", "repeats", "contracts", "cases"))])
+def test_a_script_says_what_it_does(script):
+    """And does nothing else: a proof takes an hour."""
+    words, status = told(ROOT / script, "--help")
+    assert status == 2 and re.match(r"[A-Z]\w+s .*\.\n|Runs the tests", words)
+
+
 def test_a_figure_stands_in_one_page():
     assert told(ROOT / "tools/figures") == ("", 0)
 
@@ -190,19 +197,20 @@ def test_what_is_made_of_the_code(tmp_path):
     (source / "a.rt").write_text(SMALL)
     assert told(tmp_path / "tools/contracts")[0].partition("\n## ")[2] == """`cdm_one`
 
-One thing.
-
 - `Way::go` (`ok`, `err`): Goes.
 - `Thing::go` (`kept`): It is kept.
 - Theorem `law` (`one`): There is one. It is the same everywhere.
 """
-    assert "- `Thing::size` (`value`): How large it is.\n" in told(tmp_path / "tools/contracts", "cdm_one")[0]
+    whole = told(tmp_path / "tools/contracts", "cdm_one")[0]
+    assert "\n\nOne thing.\n\n- `Way::go`" in whole and "- `Thing::size` (`value`): How large it is.\n" in whole
 
 
 def test_each_folder_of_cases_has_a_line():
     listed, status = told(ROOT / "tools/cases")
     assert status == 0 and "\none_flight  0  plan airport.csv feed.csv\n    one flight takes off at TOBT plus EXOT\n" in listed
     assert told(ROOT / "tools/cases", "carry", "the day after the last one of a year")[0].splitlines()[0] == "carry: 1"
+    shown = re.search(r"`tools/cases ([\w ]+)` lists those", (ROOT / "cases/README.md").read_text())
+    assert shown is not None and re.match(r"carry: [1-9]", told(ROOT / "tools/cases", *shown[1].split())[0])
 
 
 def test_a_folder_without_a_line_is_found(tmp_path):
@@ -246,6 +254,13 @@ def test_the_service_s_options_are_those_of_the_package():
     page, note = ((ROOT / name).read_text() for name in ("docs/RUN.md", "packaging/README.Debian"))
     found = re.search(r"echo '(OPTIONS=.*? --name (\S+) .*?)' \| sudo tee", page)
     assert found is not None and f"echo '{found[1]}' |" in note and f"server_name {found[2]};" in page
+
+
+def test_what_pages_add_to_the_unit_keeps_its_options():
+    """A board with TLS or a log in PostgreSQL has a change of day, too; who pastes the lines has no root certificate in a home."""
+    starts = re.findall(r"^ExecStart=/((?:.*\\\n)*.*)$", "\n".join((ROOT / f"docs/{name}.md").read_text() for name in ("RUN", "POSTGRES")), re.M)
+    assert len(starts) == 2 and all(start.split()[-2:] == ["$DAY", "$OPTIONS"] for start in starts)
+    assert "sslmode=verify-full&sslrootcert=/" in starts[1]
 
 
 def test_each_option_of_the_server_is_explained_to_who_runs_it():
