@@ -33,7 +33,7 @@ class Door(socket.socket):
         family, *_, address = socket.getaddrinfo(host, port, type=socket.SOCK_STREAM)[0]
         super().__init__(fileno=socket.create_server(address, family=family).detach())
         self.places = Places(limits, resource.getrlimit(resource.RLIMIT_NOFILE)[0] - KEPT_FREE)
-        self._turns = turns
+        self.turns = turns
         turns.rank = self.places.rank
         self._is_for_proxy = is_for_proxy
         self._guests = dict[int, Guest]()
@@ -61,7 +61,7 @@ class Door(socket.socket):
     def show(self, number: int) -> None:
         """A desk's token was shown on a connection."""
         self.places.show(number)
-        self._turns.first(number)
+        self.turns.first(number)
 
     def left(self, number: int) -> None:
         """A connection was closed."""
@@ -119,6 +119,10 @@ class Guard(web.RequestHandler):
     def take(self) -> None:
         """A request is begun with; those that came behind it wait."""
         self._taken += 1
+
+    async def turn(self) -> None:
+        """Waits for the turn of a request that no desk seems to make."""
+        await self._door.turns.turn()
 
     def show(self) -> None:
         """A desk's token was shown on this connection."""

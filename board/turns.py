@@ -2,7 +2,11 @@
 
 A connection on which a desk's token was shown is read as soon as it has something. Strangers wait for their turns: each time the event loop
 comes round, some of those that have something are read, the one that waits longest first, and the others stay unread. Strangers at a known
-address wait for each other alone. So a desk's reply waits for few strangers, however many ask at once, also where TLS is agreed on."""
+address wait for each other alone. So a desk's reply waits for few strangers, however many ask at once, also where TLS is agreed on.
+
+Whose a proxy's connection is isn't known before a request is read. So requests in which no desk speaks have turns as well, before anything else
+is done with them."""
+import asyncio
 import selectors
 import time
 from collections import ChainMap, deque
@@ -50,6 +54,7 @@ class Turns(selectors.BaseSelector):
         self._crowds = [Crowd(), Crowd()]
         for crowd in self._crowds:
             self._first.register(crowd.fileno(), selectors.EVENT_READ, crowd)
+        self._asked = deque[asyncio.Future[None]]()
         self._most = MOST_TURNS
         self._woke = time.monotonic()
 
@@ -73,17 +78,36 @@ class Turns(selectors.BaseSelector):
                 key = crowd.unregister(number)
                 self._first.register(number, key.events, key.data)
 
+    async def turn(self) -> None:
+        """Waits for a turn of a request that was read, and may be a stranger's."""
+        asked = asyncio.get_running_loop().create_future()
+        self._asked.append(asked)
+        await asked
+
+    def _is_due(self) -> bool:
+        return bool(self._asked) or any(crowd.is_due() for crowd in self._crowds)
+
+    def _give(self) -> None:
+        """Gives turns to requests."""
+        given = 0
+        while self._asked and given < self._most:
+            asked = self._asked.popleft()
+            if not asked.done():
+                asked.set_result(None)
+                given += 1
+
     def select(self, timeout: float | None = None) -> list[Ready]:
         """Those that have something: all that need no turn, and then some of each crowd."""
         is_long = time.monotonic() - self._woke > LONG_ROUND
         self._most = max(1, self._most // 2) if is_long else min(MOST_TURNS, self._most + 1)
-        found = self._first.select(0 if any(crowd.is_due() for crowd in self._crowds) else timeout)
+        found = self._first.select(0 if self._is_due() else timeout)
         ready = [one for one in found if not isinstance(one[0].data, Crowd)]
         for key, _ in found:
             if isinstance(key.data, Crowd):
                 key.data.look()
         for crowd in self._crowds:
             ready += crowd.turns(self._most)
+        self._give()
         self._woke = time.monotonic()
         return ready
 

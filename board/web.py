@@ -112,10 +112,13 @@ class Board:
         assert task is not None
         # Neither the loop nor the library keeps the task of a request whose client is gone, and one that isn't kept may never end.
         self._requests.add(task)
-        if isinstance(request.protocol, Guard):
-            request.protocol.take()
+        guard = request.protocol
+        if isinstance(guard, Guard):
+            guard.take()
         task.add_done_callback(self._requests.discard)
         try:
+            if isinstance(guard, Guard) and self.callers.is_stranger(request):
+                await guard.turn()
             response = await handler(request)
         except ConnectionError:
             raise
