@@ -15,7 +15,7 @@ from board.words import Fault, tell
 
 KEPT_FREE = 200
 TCP_USER_TIMEOUT = 18  # Linux' number of it, which mypy doesn't know.
-MOST_UNREAD = 256 << 10
+MOST_UNREAD = 96 << 10
 MOST_PIPELINED = 16
 # So much is given to aiohttp at once: what it reads beyond a bound is no more than that.
 PORTION = 4 << 10
@@ -52,6 +52,8 @@ class Door(socket.socket):
             connection.close()
             raise ConnectionAbortedError("too many connections")
         if entry.goes is not None:
+            # It ends at once: those that come would be more than those that have turns.
+            self.turns.first(entry.goes)
             self._guests[entry.goes].send_away()
         guest = self._guests[number] = Guest(connection.detach(), self)
         # Whoever takes nothing of what was sent to it for so long is gone, whatever else it says.
@@ -121,8 +123,10 @@ class Guard(web.RequestHandler):
         self._taken += 1
 
     async def turn(self) -> None:
-        """Waits for the turn of a request that no desk seems to make."""
+        """Waits for the turn of a request that no desk makes. Raises ConnectionError if who asks is gone by then."""
         await self._door.turns.turn()
+        if self.transport is None:
+            raise ConnectionResetError("gone before its turn")
 
     def show(self) -> None:
         """A desk's token was shown on this connection."""

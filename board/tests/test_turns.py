@@ -11,6 +11,7 @@ import pytest
 from aiohttp import web
 from board.connections import Limits, Places
 from board.guard import Door, Guard
+from board.questions import Questions
 from board.turns import LONG_ROUND, MOST_TURNS, Turns
 from board.web import MOST_AFTER
 from conftest import FACTOR, figure
@@ -228,18 +229,60 @@ def test_so_many_wait_for_a_position(board):
     assert statuses(waiting) == {b"HTTP/1.1 200 OK"}
 
 
-def test_a_flood_of_requests_is_cut_at_once():
-    """Of 256 KiB of requests on a connection little more than may wait is read."""
+def flooded_by(data):
+    """A connection on which so much comes at once, and whether it was cut."""
     async def flooded():
         door = Door("127.0.0.1", 0, False, Limits(), Turns())
         runner = web.AppRunner(web.Application())
         await runner.setup()
-        own = Guard(runner.server, door, False)
-        own.connection_made(mock.Mock(spec=asyncio.Transport))
-        own.data_received(b"GET / HTTP/1.1\r\n\r\n" * 14_563)
+        own, transport = Guard(runner.server, door, False), mock.Mock(spec=asyncio.Transport)
+        own.connection_made(transport)
+        own.data_received(data)
         own.connection_lost(None)
         door.close()
         await runner.cleanup()
-        return own
-    own = asyncio.run(flooded())
+        return own, transport.abort.called
+    return asyncio.run(flooded())
+
+
+def test_a_flood_of_requests_is_cut_at_once():
+    """Of 256 KiB of requests on a connection little more than may wait is read."""
+    own, is_cut = flooded_by(b"GET / HTTP/1.1\r\n\r\n" * 14_563)
     assert own._request_count < 300
+    assert is_cut
+
+
+def test_a_request_has_so_many_headers():
+    """Fifty thousand would take a tenth of a second to read: they are cut after 96 KiB, which a body of 64 KiB and a usual head fit in."""
+    head = b"POST /v1/records HTTP/1.1\r\nHost: localhost\r\nContent-Length: 65536\r\n" + b"A: " + b"b" * 8000 + b"\r\n\r\n"
+    assert not flooded_by(head + b"A" * 65_536)[1]
+    own, is_cut = flooded_by(b"GET / HTTP/1.1\r\n" + b"a:b\r\n" * 52_000)
+    assert is_cut and own._unread <= 100 << 10
+
+
+def test_who_makes_room_needs_no_turn():
+    """Its end is seen at once, however many wait for their turns: otherwise there would soon be more connections than there may be."""
+    turns = Turns()
+    door = Door("127.0.0.1", 0, False, Limits(connections=2, kept_for_desks=1), turns)
+    clients = [socket.create_connection(door.getsockname()) for _ in range(2)]
+    first, _ = door.accept()
+    turns.register(first, selectors.EVENT_READ)
+    assert rows([first.fileno()], turns) == []
+    second, _ = door.accept()
+    others = [socket.socketpair() for _ in range(40)]
+    turns.rank = lambda number: 2
+    for own, other in others:
+        turns.register(own, selectors.EVENT_READ)
+        other.send(b"A")
+    assert all(rows([first.fileno()], turns) for _ in range(5))
+    for own in (*clients, first, second, door, *(one for pair in others for one in pair)):
+        own.close()
+    turns.close()
+
+
+def test_strangers_read_the_log_one_after_the_other():
+    """However many addresses they have: each reading takes the server's time. Desks have turns of their own."""
+    asked = Questions(mock.Mock(), mock.Mock(), mock.Mock(first=5), mock.Mock(), mock.Mock(), lambda request: request)
+    assert [asked._together(asker) for asker in ("@192.0.2.1", "@192.0.2.2", "tower", "ap")] == ["@", "@", "tower", "ap"]
+    assert asked._turn("@192.0.2.1", 4) is asked._answers.turn.return_value
+    asked._answers.turn.assert_called_once_with(("day", "@"))
