@@ -15,10 +15,10 @@ from board.words import Fault, tell
 
 KEPT_FREE = 200
 TCP_USER_TIMEOUT = 18  # Linux' number of it, which mypy doesn't know.
-MOST_UNREAD = 96 << 10
+MOST_UNREAD = 256 << 10
 MOST_PIPELINED = 16
 # So much is given to aiohttp at once: what it reads beyond a bound is no more than that.
-PORTION = 4 << 10
+PORTION = 16 << 10
 HEADERS = 10.0
 OF_A_PROXY = 75.0
 UNTAKEN = 60.0
