@@ -39,6 +39,7 @@ from board.past import Past, spans_of
 from board.replies import Keeper, check_length, day_of_log, reply_again
 from board.sequencer import MOST_JOURNAL, Sequencer, place_with_room
 from board.telling import Teller
+from board.turns import Turns
 from board.views import Views
 from board.web import Board
 from board.words import Fault, Problem, lines_of, tell
@@ -311,7 +312,7 @@ async def serve(options: argparse.Namespace) -> None:
         answers = Answers(PROGRAM, folder, day, past.of_base)
         board = Board(callers, log, day, sequencer, answers, Events(log.id, day))
         runner = web.AppRunner(board.application())
-        door = Door(host, port, options.behind_proxy, desks.limits)
+        door = Door(host, port, options.behind_proxy, desks.limits, options.turns)
         await runner.setup()
         assert (manager := runner.server) is not None
         check_library(manager, door)
@@ -391,10 +392,12 @@ def again(options: argparse.Namespace, board: Board, door: Door, sealed: ssl.SSL
 def main() -> int:
     """The exit status."""
     options = words()
+    options.turns = Turns()
     teller = Teller()
     teller.start()
     try:
-        asyncio.run(options.run(options))
+        with asyncio.Runner(loop_factory=lambda: asyncio.SelectorEventLoop(options.turns)) as runner:
+            runner.run(options.run(options))
         return 0
     except asyncio.CancelledError:
         return 0

@@ -78,6 +78,16 @@ class Callers:
             raise Problem(401, "a token of a desk is needed", WWW_Authenticate="Bearer")
         return desk
 
+    def is_stranger(self, request: web.Request) -> bool:
+        """Whether no desk asks, though desks have tokens. Nothing is counted here."""
+        said = request.headers.get("Authorization")
+        cookie = self.cookie_of(request)
+        if self.desks.is_open:
+            return False
+        if said is not None:
+            return self.desks.by_token(said[7:]) is None
+        return cookie is None or self.sessions.of(cookie, self.desks) is None
+
     def cookie_of(self, request: web.Request) -> str | None:
         """The board's cookie. The others aren't read: a header has room for more than a thousand."""
         name = f"{self.cookie_name}="

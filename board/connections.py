@@ -143,6 +143,13 @@ class Places:
         if len(self._known) > MOST_KNOWN:
             self._forget(self._known.popitem(last=False)[0])
 
+    def rank(self, number: int) -> int:
+        """Whom a connection waits for: 0, nobody, as on it a token was shown, or it is none; 1, strangers at known addresses; 2, the others."""
+        group = self._groups.get(self._group_of.get(number, ""))
+        if group is None or number not in group.strangers:
+            return 0
+        return 1 if group.is_known else 2
+
     def _forget(self, name: str) -> None:
         group = self._groups.get(name)
         if group is not None:

@@ -9,6 +9,7 @@ import aiohttp
 from aiohttp import web
 
 from board.connections import Limits, Places, group_of, is_loopback
+from board.turns import Turns
 from board.windows import Windows
 from board.words import Fault, tell
 
@@ -16,6 +17,8 @@ KEPT_FREE = 200
 TCP_USER_TIMEOUT = 18  # Linux' number of it, which mypy doesn't know.
 MOST_UNREAD = 256 << 10
 MOST_PIPELINED = 16
+# So much is given to aiohttp at once: what it reads beyond a bound is no more than that.
+PORTION = 16 << 10
 HEADERS = 10.0
 OF_A_PROXY = 75.0
 UNTAKEN = 60.0
@@ -26,10 +29,12 @@ class Door(socket.socket):
     """A socket that lets so many connections in, also before TLS is agreed on. Behind a proxy it lets in this machine alone, whose
     connections count in all, but not by their address."""
 
-    def __init__(self, host: str, port: int, is_for_proxy: bool, limits: Limits) -> None:
+    def __init__(self, host: str, port: int, is_for_proxy: bool, limits: Limits, turns: Turns) -> None:
         family, *_, address = socket.getaddrinfo(host, port, type=socket.SOCK_STREAM)[0]
         super().__init__(fileno=socket.create_server(address, family=family).detach())
         self.places = Places(limits, resource.getrlimit(resource.RLIMIT_NOFILE)[0] - KEPT_FREE)
+        self.turns = turns
+        turns.rank = self.places.rank
         self._is_for_proxy = is_for_proxy
         self._guests = dict[int, Guest]()
         self._came_round = Windows(HOUR)
@@ -47,11 +52,18 @@ class Door(socket.socket):
             connection.close()
             raise ConnectionAbortedError("too many connections")
         if entry.goes is not None:
+            # It ends at once: those that come would be more than those that have turns.
+            self.turns.first(entry.goes)
             self._guests[entry.goes].send_away()
         guest = self._guests[number] = Guest(connection.detach(), self)
         # Whoever takes nothing of what was sent to it for so long is gone, whatever else it says.
         guest.setsockopt(socket.IPPROTO_TCP, TCP_USER_TIMEOUT, int(1000 * UNTAKEN))
         return guest, peer
+
+    def show(self, number: int) -> None:
+        """A desk's token was shown on a connection."""
+        self.places.show(number)
+        self.turns.first(number)
 
     def left(self, number: int) -> None:
         """A connection was closed."""
@@ -110,10 +122,16 @@ class Guard(web.RequestHandler):
         """A request is begun with; those that came behind it wait."""
         self._taken += 1
 
+    async def turn(self) -> None:
+        """Waits for the turn of a request that no desk makes. Raises ConnectionError if who asks is gone by then."""
+        await self._door.turns.turn()
+        if self.transport is None:
+            raise ConnectionResetError("gone before its turn")
+
     def show(self) -> None:
         """A desk's token was shown on this connection."""
         if self.transport is not None:
-            self._door.places.show(self._number)
+            self._door.show(self._number)
 
     def _cut(self) -> None:
         if self.transport is not None:
@@ -125,15 +143,18 @@ class Guard(web.RequestHandler):
         self.lost.set()
 
     def data_received(self, data: bytes) -> None:
-        # aiohttp's own count of the requests that were begun.
-        count = self._request_count
-        super().data_received(data)
-        self._unread += len(data)
-        if self._request_count > count:
-            self._late.cancel()
-            self._unread = 0
-        if self._unread > MOST_UNREAD or self._request_count - self._taken > MOST_PIPELINED:
-            self._cut()
+        for start in range(0, len(data), PORTION):
+            # aiohttp's own count of the requests that were begun.
+            count = self._request_count
+            portion = data[start:start + PORTION]
+            super().data_received(portion)
+            self._unread += len(portion)
+            if self._request_count > count:
+                self._late.cancel()
+                self._unread = 0
+            if self._unread > MOST_UNREAD or self._request_count - self._taken > MOST_PIPELINED:
+                self._cut()
+                break
 
     def handle_error(self, request: web.BaseRequest, status: int = 500, exc: BaseException | None = None,
                      message: str | None = None) -> web.StreamResponse:

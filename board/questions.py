@@ -76,7 +76,7 @@ class Questions:
         since = request.query.get("since", "0")
         which = (request.query.get("flight"), request.query.get("desk"))
         refuse(not POSITION.fullmatch(since), 400, "since is a position")
-        async with self._answers.turn(("log", self._asker(request))):
+        async with self._answers.turn(("log", self._together(request))):
             if "day" in request.query:
                 day = await self._of_date(request, request.query["day"])
                 found = day.found(int(since), *which)
@@ -145,11 +145,13 @@ class Questions:
             return await self._past.of_date(said)
 
     def _turn(self, request: web.Request, first: int) -> contextlib.AbstractAsyncContextManager[None]:
-        """The turn of a desk to have an earlier day read, if the first position that is asked for is of one. All who have no desk take turns
-        as one, so that they keep no desk waiting."""
+        """The turn of a desk to have an earlier day read, if the first position that is asked for is of one."""
+        return self._answers.turn(("day", self._together(request))) if first < self._day.first else contextlib.nullcontext()
+
+    def _together(self, request: web.Request) -> str:
+        """Whose turn it is: a desk's, or that of all who have no desk, however many addresses they have."""
         asker = self._asker(request)
-        is_earlier = first < self._day.first
-        return self._answers.turn(("day", NAMELESS if asker.startswith(NAMELESS) else asker)) if is_earlier else contextlib.nullcontext()
+        return NAMELESS if asker.startswith(NAMELESS) else asker
 
     async def file(self, request: web.Request) -> web.Response:
         """The table of kinds, or the airport file."""
@@ -158,7 +160,7 @@ class Questions:
 
     async def journal(self, request: web.Request) -> web.Response:
         """The accepted records of a day as a feed."""
-        async with self._answers.turn(("log", self._asker(request))):
+        async with self._answers.turn(("log", self._together(request))):
             day = await self._of_date(request, request.query.get("day", self._day.date))
             return await self.of_moment(request, day.position, "csv", day.feed().encode(), day)
 

@@ -4,6 +4,7 @@ import contextlib
 import re
 import socket
 import time
+from collections import Counter
 from collections.abc import Awaitable, Callable
 from http.cookies import CookieError
 
@@ -31,6 +32,8 @@ from board.unsent import Unsent
 from board.words import KEY, POSITION, Problem, lines_of, now_text, refuse, tell
 
 AFTER_LIMIT = 2.0
+# Requests of a desk, or of all who have none, that wait for a position: all of them go on at once when it comes.
+MOST_AFTER = 256
 SEND_LIMIT = 60.0
 # What may be said once alone: of two, the next program on the way might read the other one.
 ONCE = "Host Origin Authorization Idempotency-Key Cdm-Role Cdm-After Content-Length Transfer-Encoding Content-Type".split()
@@ -58,6 +61,7 @@ class Board:
         self._files = Files()
         self._unsent = Unsent()
         self._requests = set["asyncio.Task[object]"]()
+        self._waiting = Counter[str]()
         self.questions = Questions(log, sequencer.past, day, answers, self._unsent, callers.asker)
         self.changing = Changing(log, day, answers, self.records)
         self._days = Days(callers, day, sequencer.past, self.changing, self.questions)
@@ -82,12 +86,24 @@ class Board:
                 request.protocol.show()
         self._unsent.check_own(self.callers.asker(request))
         refuse(not POSITION.fullmatch(after), 400, "Cdm-After is a position")
-        if request.path not in ("/v1/records", "/v1/session") or request.method in ("GET", "HEAD"):
+        is_of_day = request.path.startswith("/v1/") and request.path != "/v1/session"
+        if is_of_day and (request.path != "/v1/records" or request.method in ("GET", "HEAD")):
+            await self._reached(request[DESK].name, int(after))
+        return await handler(request)
+
+    async def _reached(self, desk: str, position: int) -> None:
+        """Waits until a position is here. Raises Problem if it isn't in time, or too many wait."""
+        if position <= self.day.position:
+            return
+        refuse(self._waiting[desk] >= MOST_AFTER, 429, "too many requests wait for a position", Retry_After="1")
+        self._waiting[desk] += 1
+        try:
             with contextlib.suppress(TimeoutError, Problem):
                 async with asyncio.timeout(AFTER_LIMIT):
-                    await self.day.reached(int(after))
-            refuse(int(after) > self.day.position, 503, "this position isn't here yet", Retry_After="1")
-        return await handler(request)
+                    await self.day.reached(position)
+        finally:
+            self._waiting[desk] -= 1
+        refuse(position > self.day.position, 503, "this position isn't here yet", Retry_After="1")
 
     @web.middleware
     async def answered(self, request: web.Request, handler: Handler) -> web.StreamResponse:
@@ -96,10 +112,13 @@ class Board:
         assert task is not None
         # Neither the loop nor the library keeps the task of a request whose client is gone, and one that isn't kept may never end.
         self._requests.add(task)
-        if isinstance(request.protocol, Guard):
-            request.protocol.take()
+        guard = request.protocol
+        if isinstance(guard, Guard):
+            guard.take()
         task.add_done_callback(self._requests.discard)
         try:
+            if isinstance(guard, Guard) and self.callers.is_stranger(request):
+                await guard.turn()
             response = await handler(request)
         except ConnectionError:
             raise
