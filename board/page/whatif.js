@@ -57,7 +57,7 @@ export class WhatIf {
     this.sends.addEventListener('click', () => this.send());
     this.box.addEventListener('input', () => this.keep());
     this.recall();
-    $('#b-pictures').addEventListener('click', () => this.picture.show(this.names.length ? this.text : '', this.names));
+    $('#b-pictures').addEventListener('click', async () => (await this.picture()).show(this.names.length ? this.text : '', this.names));
   }
 
   open() {
