@@ -108,9 +108,9 @@ export class Mine {
     return Boolean(this.desk.who?.flights) && document.documentElement.classList.contains('l-hand');
   }
 
-  /** Its flights that haven't taken off, by start-up; those without one last. */
+  /** Its flights that haven't taken off, by start-up; those without one behind them, and those that have left their stand last. */
   rows() {
-    const key = (row) => `${row.tsat ?? '~'} ${row.flight}`;
+    const key = (row) => `${row.status === 'OFFBLOCK' ? '~~' : row.tsat ?? '~'} ${row.flight}`;
     return [...this.day.rows.values()].filter((row) => this.isMine(row.flight) && !['AIRBORNE', 'CANCELLED'].includes(row.status))
       .sort((one, other) => (key(one) < key(other) ? -1 : 1));
   }

@@ -18,6 +18,7 @@ const MOST_LINK = 6000; // characters of an address
 const FIRST = 'SCENARIO,A';
 const EMPTY = /^(SCENARIO,NAME)?\s*$/;
 const MOST_BESIDE = 4; // scenarios whose loads and causes are shown at once
+const GAP = 8; // px
 const COLUMNS = ['placed', 'delay', 'max', 'late', 'blocked', 'moved'];
 
 /** The form that desks have; what it makes goes into the last scenario, and its onSend(line) says into which. */
@@ -44,7 +45,6 @@ export class WhatIf {
     this.against = el('p', { hidden: true }, el('label', {}, 'Difference to ', this.base));
     this.axis = el('div', { id: 'wi-axis' });
     this.causes = new DelayByCause();
-    $('#h-wm').before(this.against, this.axis, this.causes.root);
     this.base.addEventListener('change', () => this.compare(this.compared));
     addEventListener('layout', () => this.place());
     this.link = el('a', { id: 'wi-link', hidden: true }, 'Link to these scenarios');
@@ -53,7 +53,7 @@ export class WhatIf {
     this.sent = el('p', { class: 'reply', id: 'wi-sent', tabindex: -1, hidden: true });
     this.sending = { id: 'what-if', root: this.sent, told: (order) => this.told(order) };
     $('#scenario-h').after(this.link);
-    $('#wi-head').before(this.sends, this.note, this.sent);
+    $('#h-wm').before(this.sends, this.note, this.sent, this.against, this.axis, this.causes.root);
     this.sends.addEventListener('click', () => this.send());
     this.box.addEventListener('input', () => this.keep());
     this.recall();
@@ -249,13 +249,20 @@ export class WhatIf {
     this.moved(moved, name, base);
     this.offer(name);
     $('#wi-answer').hidden = false;
-    if (document.activeElement !== this.base) $('#wi-head').focus({ preventScroll: true });
+    if (document.activeElement !== this.base) this.toAnswer();
     if (areWrong.length) await this.refused(body, number);
     if (number !== this.asked) return;
     this.causes.root.hidden = areWrong.includes(name);
     if (!areWrong.includes(name)) return this.draw(plans, name, base, body, number);
     this.sends.hidden = true;
     this.beside([{ name: '', runways: [] }]);
+  }
+
+  /** What was asked for is in sight, below the panel's head; the page behind stays where it is. */
+  toAnswer() {
+    const [panel, head] = [$('#p-what-if'), $('#wi-head')];
+    panel.scrollTop += head.getBoundingClientRect().top - $('.ph', panel).getBoundingClientRect().bottom - GAP;
+    head.focus({ preventScroll: true });
   }
 
   /** What it may differ from: the day, or another scenario. */
@@ -279,6 +286,7 @@ export class WhatIf {
     }
     this.causes.show(causes, name, base);
     this.beside(loads, loads.find((one) => one.name === base)?.runways ?? null);
+    if (document.activeElement === $('#wi-head')) this.toAnswer(); // there is more below it now
     const left = plans.length - names.length;
     say($('#wi-note'), `In the runways’ bands ${names.length > 1 ? 'each scenario has its rows' : `the second row is ${name}`}; * marks a flight that isn’t in that cell `
       + `${base ? `in ${base}` : 'now'}, and where it was its name is struck out.${left ? ` Of ${plans.length} scenarios ${names.length} are shown: choose another one in the table.` : ''}`);

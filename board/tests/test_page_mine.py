@@ -63,6 +63,23 @@ def test_cards_on_a_phone(page):
     assert shown.js(CLIPPED) == [] and shown.js(BROKEN) == []
 
 
+def test_what_has_left_is_last(page):
+    """It waits for nothing that a handler could send. DLH1, at 06:00, is first until then."""
+    shown = opened(page, 360)
+    shown.until("return document.querySelectorAll('#mine li').length === 3")
+    shown.server.post("OFF,DLH1,2025-03-10T05:50Z", "atc")
+    shown.until("return [...document.querySelectorAll('#mine li')].map((one) => one.dataset.flight).join() === 'DLH2,EZY7,DLH1'")
+    assert not shown.find('#mine li[data-flight="DLH1"] form').is_displayed()
+
+
+def test_the_first_card_is_high(page):
+    """Above it is what the board says of all, in less than half of a phone's screen; also where no CLOCK came."""
+    shown = opened(page, 360)
+    shown.until("return document.querySelectorAll('#mine li').length === 3")
+    shown.js("document.querySelector('#no-clock').style.setProperty('display', 'block', 'important')")
+    assert shown.js("return document.querySelector('#mine li').getBoundingClientRect().top") < 320
+
+
 def test_a_card_says_the_effect_of_its_tobt(page):
     """Before it is sent: DLH2 has the place of DLH1 then. A time in the past is asked about once, and what was sent is taken back."""
     shown = opened(page, 360)
