@@ -6,6 +6,7 @@ import { Problem, objects } from './net.js';
 
 const TRIES = 3;
 const ENTRY = ['status', 'rule', 'runway', 'tobt', 'exot', 'ctot', 'tsat', 'ttot', 'delay']; // what the program compares
+const ROOM = 5; // per cent of the width: a letter has room
 const CAUSES = ['delay', 'ice', 'ctot', 'closure', 'spacing', 'rate', 'now'];
 const HEADS = ['Plan', 'Delay', 'Ice', 'CTOT', 'Closure', 'Spacing', 'Rate', 'Now'];
 
@@ -68,9 +69,9 @@ export class DelayByCause {
 
   barOf(total, most) {
     return el('span', {}, ...CAUSES.slice(1).filter((cause) => total[cause] > 0).map((cause) => {
-      const letter = LETTERS[cause.toUpperCase()];
-      const part = el('b', { class: `k${letter}` }, letter);
-      part.style.width = `${(total[cause] * 100 / most).toFixed(2)}%`;
+      const [letter, share] = [LETTERS[cause.toUpperCase()], total[cause] * 100 / most];
+      const part = el('b', { class: `k${letter}` }, share >= ROOM && letter);
+      part.style.width = `${share.toFixed(2)}%`;
       return part;
     }));
   }
