@@ -10,7 +10,7 @@ const CELL = 4; // rem: the widest name fits
 
 export class Bands {
   constructor(day) {
-    Object.assign(this, { day, runways: [], other: null, bands: new Map(), buttonOf: null });
+    Object.assign(this, { day, runways: [], plans: null, base: null, bands: new Map(), buttonOf: null });
   }
 
   take(runways) {
@@ -18,10 +18,19 @@ export class Bands {
     this.show();
   }
 
-  /** The loads of a what-if, as a second row; []: not known yet; null: none. */
-  beside(runways) {
-    this.other = runways;
+  /** The loads of scenarios, as rows of their own: {name, runways, isChosen} each; null: none. `base`: the loads that they are compared with, or null: the day's. */
+  beside(plans, base = null) {
+    Object.assign(this, { plans, base });
     this.show();
+  }
+
+  /** What is drawn of a runway beside its own cells: each scenario's, and those that they are compared with. */
+  othersOf({ runway: name }, cells) {
+    const like = (runways) => {
+      const found = runways.find((one) => one.runway === name);
+      return cells.map(({ from }) => (found ? cellOf(found, from) : { from, placed: null, cap: null, closed: 0, flights: [] }));
+    };
+    return { plans: this.plans?.map((plan) => ({ ...plan, runways: null, isKnown: plan.runways.length > 0, cells: like(plan.runways) })) ?? [], base: this.base ? like(this.base) : cells };
   }
 
   show() {
@@ -33,12 +42,12 @@ export class Bands {
       if (!now) continue;
       const cells = cellsOf(runway, now, this.day.date);
       drawn.push({ runway, cells });
-      const other = this.other && likeOf(this.other.find((one) => one.runway === runway.runway), cells);
-      const text = JSON.stringify([this.day.date, cells, now, other, withFlights]);
+      const others = this.othersOf(runway, cells);
+      const text = JSON.stringify([this.day.date, cells, now, others, withFlights]);
       const band = this.bands.get(runway.runway) ?? this.make(runway.runway);
       if (band.text === text) continue;
       band.text = text;
-      this.draw(band, runway, cells, other, withFlights);
+      this.draw(band, runway, cells, others, withFlights);
     }
     for (const [name, band] of this.bands) {
       if (!this.runways.some((one) => one.runway === name)) {
@@ -76,16 +85,16 @@ export class Bands {
     band.button = button;
   }
 
-  draw(band, runway, cells, other, withFlights) {
+  draw(band, runway, cells, { plans, base }, withFlights) {
     const { date } = this.day;
     say(band.state, stateOf(cells, runway, date));
     say(band.cells, `cells of ${runway.cell} min`);
     band.table.style.minWidth = `calc(${3.25 + cells.length * CELL}rem * var(--wide, 1))`;
     const heads = cells.map((cell) => el('th', { scope: 'col', class: cell.from.slice(14, 16) === '00' && 'hour' }, hm(cell.from, date)));
     const bodies = [el('tbody', {}, ...rowsOf('load', cells, runway, withFlights))];
-    if (other) {
-      const moved = new Map(cells.map((cell) => [cell.from, new Set(cell.flights)]));
-      bodies.push(el('tbody', { class: 'wi' }, ...rowsOf('what-if', other, runway, withFlights, moved)));
+    for (const plan of plans) {
+      const name = plans.length > 1 && el('tr', { class: 'name' }, el('th', { scope: 'rowgroup', colspan: cells.length + 1 }, el('b', {}, plan.name)));
+      bodies.push(el('tbody', { class: plan.isChosen && plans.length > 1 ? 'wi chosen' : 'wi' }, name, ...rowsOf('what-if', plan.cells, runway, withFlights, plan.isKnown ? base : null)));
     }
     band.table.replaceChildren(el('thead', {}, el('tr', {}, el('th', { scope: 'col' }, 'TTOT'), ...heads)), ...bodies);
   }
@@ -95,8 +104,6 @@ export class Bands {
 function cellOf({ cells }, from) {
   return cells.find((cell) => cell.from === from) ?? { from, placed: 0, cap: null, closed: 0, flights: [] };
 }
-
-const likeOf = (runway, cells) => cells.map(({ from }) => (runway ? cellOf(runway, from) : { from, placed: null, cap: null, closed: 0, flights: [] }));
 
 /** The cells of the axis, from the one that has NOW on, up to the end of the two days. */
 function cellsOf(runway, now, date) {
@@ -122,6 +129,7 @@ function stateOf(cells, { cell: length }, date) {
   return next ? `open, closes at ${next.closed < length ? 'or after ' : ''}${hm(next.from, date)}` : 'open';
 }
 
+/** `before`: the cells that these are compared with, or null. */
 function rowsOf(title, cells, { cell: length }, withFlights, before = null) {
   const loads = cells.map((cell, at) => {
     const isShut = cell.closed >= length;
@@ -132,12 +140,18 @@ function rowsOf(title, cells, { cell: length }, withFlights, before = null) {
       el('span', { class: 'num' }, shut ? 'closed' : cell.placed === null ? '–' : cell.cap === null ? '0' : `${cell.placed}/${cell.cap}${isOver ? '!' : ''}`),
       cell.closed && !shut ? el('span', { class: 'vh' }, `, ${cell.closed} min closed`) : null);
   });
-  const rows = [el('tr', {}, el('th', { scope: 'row' }, title), ...loads)];
+  const rows = [el('tr', { class: 'load' }, el('th', { scope: 'row' }, title), ...loads)];
   if (withFlights) {
-    rows.push(el('tr', { class: 'names' }, el('th', { scope: 'row' }, 'flights'), ...cells.map((cell) => el('td', {},
-      ...cell.flights.flatMap((name, at) => [at > 0 && el('br'), before && !before.get(cell.from)?.has(name) ? `${name}*` : name])))));
+    rows.push(el('tr', { class: 'names' }, el('th', { scope: 'row' }, 'flights'), ...cells.map((cell, at) => el('td', {}, ...namesIn(cell.flights, before?.[at].flights ?? cell.flights)))));
   }
   return rows;
+}
+
+/** The flights in a cell: one that isn't among those of before is marked, and of those that aren't here any more the names are struck out. */
+function namesIn(flights, before) {
+  const here = flights.map((name) => (before.includes(name) ? name : `${name}*`));
+  const gone = before.filter((name) => !flights.includes(name)).map((name) => el('s', {}, el('span', { class: 'vh' }, 'was '), name));
+  return [...here, ...gone].flatMap((one, at) => [at > 0 && el('br'), one]);
 }
 
 function blocks({ placed, cap }, isShut) {

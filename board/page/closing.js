@@ -15,7 +15,8 @@ export class Closing extends Sender {
     const until = el('small');
     const end = el('button', { type: 'button', class: 'quiet' }, 'Not now');
     super({ day, onSend, word: `Close ${runway}`, label: `Close runway ${runway}`, kinds,
-      inputs: [el('label', {}, 'From, UTC ', from), el('label', {}, 'for ', length), until, end] });
+      inputs: [el('label', {}, 'From, UTC ', from), el('label', {}, 'for ', length), until] });
+    this.button.after(end);
     Object.assign(this, { runway, from, length, until, isTouched: true });
     end.addEventListener('click', onEnd);
     this.root.addEventListener('keydown', (event) => {

@@ -13,7 +13,6 @@ import { Moves } from './moves.js';
 import { clock, heard, needed, request, said, Streams } from './net.js';
 import { Next } from './next.js';
 import { Panels } from './panels.js';
-import { Picture } from './picture.js';
 import { enableForms } from './press.js';
 import { showRecords } from './records.js';
 import { openKeys, showAct, startState } from './state.js';
@@ -37,7 +36,6 @@ const [all, next, blocked] = [new All(day, moves, filter), new Next(day, moves, 
 const warnings = new Warnings(day, filter);
 const bands = new Bands(day);
 const runways = () => bands.runways.map((one) => one.runway);
-const picture = new Picture();
 const causes = new Causes(() => give({ type: 'causes', isOpen: causes.isWanted, by: causes.select.value }));
 const flight = new FlightPanel(day, desk, runways, send);
 const streams = new Streams(give);
@@ -66,31 +64,34 @@ const sendPanel = {
   },
   close: closed,
 };
-/** The what-if, which is loaded as soon as it is needed. */
-function whatIf() {
-  whatIf.made ??= needed('whatif').then(({ WhatIf }) => new WhatIf({ day, bands, picture, desk, runways, send })).catch((fault) => {
-    whatIf.made = null;
-    throw fault;
-  });
-  return whatIf.made;
+/** A part of the page that is loaded as soon as it is needed, and made once. */
+function part(name, make) {
+  const get = () => {
+    get.made ??= needed(name).then(make).catch((fault) => {
+      get.made = null;
+      throw fault;
+    });
+    return get.made;
+  };
+  return get;
 }
+const picture = part('picture', ({ Picture }) => new Picture());
+const whatIf = part('whatif', ({ WhatIf }) => new WhatIf({ day, bands, picture, desk, runways, send }));
+const toDo = part('act', ({ Act }) => new Act({ day, moves, desk, warnings, propose })); // what to do about each warning
 desk.toScenario = async (line) => (await whatIf()).add(line);
 const whatIfPanel = {
   open: () => whatIf().then((one) => panels.open === 'what-if' && one.open()),
   close: () => whatIf.made?.then((one) => one.close()),
 };
+$('#b-picture').addEventListener('click', (event) => {
+  if (event.ctrlKey || event.metaKey || event.shiftKey) return;
+  event.preventDefault();
+  picture().then((one) => one.show(''));
+});
 $('#p-what-if form').addEventListener('submit', (event) => {
   event.preventDefault();
   whatIf().then((one) => one.compare());
 });
-/** What to do about each warning, likewise. */
-function toDo() {
-  toDo.made ??= needed('act').then(({ Act }) => new Act({ day, moves, desk, warnings, propose })).catch((fault) => {
-    toDo.made = null;
-    throw fault;
-  });
-  return toDo.made;
-}
 const toDoPanel = {
   open: () => toDo().then((one) => panels.open === 'act' && one.open()),
   close: () => toDo.made?.then((one) => one.close()),

@@ -4,7 +4,7 @@ import { isLate } from './day.js';
 import { $, el, named, say } from './dom.js';
 import { notice } from './head.js';
 import { whenFree } from './hold.js';
-import { newKey } from './net.js';
+import { Sender } from './sender.js';
 import { hm, later, minutesFrom, typed } from './times.js';
 import { current } from './warnings.js';
 
@@ -12,6 +12,7 @@ const STEPS = [-5, 5, 10, 15];
 const MOST_CARDS = 40;
 const NOTICED = 60000; // ms for which the window's name says what moved
 const ASKED = 'cdm-notify';
+const WHOLE = /^\d{4}-\d\d-\d\dT\d\d:\d\dZ$/;
 let count = 0;
 
 /** Whether notices of the system are wished, and allowed. */
@@ -28,6 +29,60 @@ function tellSystem(text, name) {
   try {
     new Notification(text, { tag: name }).addEventListener('click', () => { location.hash = `#${name}`; });
   } catch { /* some phones have none for a page: the window's name says it */ }
+}
+
+/** A flight's card: its TOBT as a form, with its effect before it is sent, and what takes it back. */
+class Card extends Sender {
+  /** day, onSend, kinds: as of any sender. */
+  constructor(name, { day, onSend, kinds }) {
+    const id = `m${count += 1}`;
+    const field = el('input', { id, name: 'tobt', inputmode: 'numeric', size: 6, maxlength: 8, autocomplete: 'off' });
+    const steps = STEPS.map((by) => el('button', { type: 'button', 'aria-label': `TOBT ${by > 0 ? `${by} minutes later` : `${-by} minutes earlier`}` }, by > 0 ? `+${by}` : `−${-by}`));
+    super({ day, onSend, word: 'Send TOBT', label: `TOBT of ${name}`, kinds, inputs: [el('label', { for: id }, 'TOBT '), field, ...steps] });
+    Object.assign(this, { name, field, link: el('a'), where: el('small'), tsat: el('b', { class: 'tsat' }), ahead: el('span'), why: el('p') });
+    this.item = el('li', { 'data-flight': name }, el('h3', {}, this.link, ' ', this.where), el('p', { class: 'start' }, this.tsat, ' ', this.ahead), this.why, this.root);
+    named(this.link, name);
+    steps.forEach((button, at) => button.addEventListener('click', () => this.step(STEPS[at])));
+  }
+
+  get tobt() {
+    return typed(this.field.value, this.day.date);
+  }
+
+  get isFilled() {
+    return WHOLE.test(this.tobt);
+  }
+
+  text() {
+    return `TOBT,${this.name},${this.tobt}`;
+  }
+
+  /** Its TOBT so many minutes later, as a proposal: from what stands in the field, else from NOW. */
+  step(by) {
+    this.field.value = hm(later(this.isFilled ? this.tobt : this.day.now, by), this.day.date);
+    this.isTouched = true;
+    this.preview();
+  }
+
+  changedText(reply) {
+    const row = reply.changes?.find((one) => one.flight === this.name) ?? this.day.rows.get(this.name);
+    return row?.tsat ? `Start-up ${hm(row.tsat, this.day.date)}.` : row ? `${statusWord(row.status)} ${row.rule ?? ''}.` : '';
+  }
+
+  /** What the flight's Row says; what is being put in stays. */
+  write(row, { mark, cause, warned, since, takes }) {
+    const { date, now } = this.day;
+    const minutes = row.tsat ? minutesFrom(now, row.tsat) : null;
+    say(this.where, [row.runway ?? 'no runway', row.stand && `stand ${row.stand}`].filter(Boolean).join(', '));
+    say(this.tsat, row.tsat ? hm(row.tsat, date) : statusWord(row.status));
+    say(this.ahead, mark || (row.status !== 'PLANNED' ? [row.tsat && statusWord(row.status), row.rule].filter(Boolean).join(' ') : minutes > 0 ? `in ${minutes}` : 'now'));
+    this.item.classList.toggle('moved', mark !== null);
+    const words = [row.delay ? `${isLate(row) ? 'late ' : 'delay '}${row.delay}` : '', row.ctot && `CTOT ${hm(row.ctot, date)}`, since].filter(Boolean).join(' · ');
+    this.why.replaceChildren(...warned.flatMap((kind) => [el('b', { class: 'tag' }, kind), ' ']), ...(cause ? [el('b', { class: `cause k${LETTERS[cause] ?? ''}` }, REASONS[cause] ?? cause), ' '] : []), words);
+    this.root.hidden = !takes;
+    if (!this.isTouched && document.activeElement !== this.field) this.field.value = row.tobt ? hm(row.tobt, date) : '';
+    this.preview();
+  }
 }
 
 export class Mine {
@@ -53,9 +108,9 @@ export class Mine {
     return Boolean(this.desk.who?.flights) && document.documentElement.classList.contains('l-hand');
   }
 
-  /** Its flights that haven't taken off, by start-up; those without one last. */
+  /** Its flights that haven't taken off, by start-up; those without one behind them, and those that have left their stand last. */
   rows() {
-    const key = (row) => `${row.tsat ?? '~'} ${row.flight}`;
+    const key = (row) => `${row.status === 'OFFBLOCK' ? '~~' : row.tsat ?? '~'} ${row.flight}`;
     return [...this.day.rows.values()].filter((row) => this.isMine(row.flight) && !['AIRBORNE', 'CANCELLED'].includes(row.status))
       .sort((one, other) => (key(one) < key(other) ? -1 : 1));
   }
@@ -69,7 +124,7 @@ export class Mine {
     const shown = rows.slice(0, MOST_CARDS);
     say($('#h-m b'), rows.length);
     say($('#mine .empty'), rows.length > shown.length ? `${rows.length - shown.length} more are in All flights.` : rows.length ? '' : 'None of its flights is at its stand.');
-    for (const row of shown) this.write(this.cards.get(row.flight) ?? this.make(row.flight), row);
+    for (const row of shown) this.write(row);
     whenFree(() => this.place(shown.map((row) => row.flight)));
   }
 
@@ -78,79 +133,32 @@ export class Mine {
     const order = names.join();
     if (order === this.order || document.activeElement?.matches('#mine input')) return;
     this.order = order;
-    for (const [name, { root }] of this.cards) if (!names.includes(name)) root.remove();
+    for (const [name, { item }] of this.cards) if (!names.includes(name)) item.remove();
     let before = null;
     for (const name of [...names].reverse()) {
-      const { root } = this.cards.get(name);
-      const put = this.list.moveBefore && root.isConnected ? 'moveBefore' : 'insertBefore'; // the one keeps the focus
-      if (root.nextSibling !== before || !root.isConnected) this.list[put](root, before);
-      before = root;
+      const { item } = this.cards.get(name);
+      const put = this.list.moveBefore && item.isConnected ? 'moveBefore' : 'insertBefore'; // the one keeps the focus
+      if (item.nextSibling !== before || !item.isConnected) this.list[put](item, before);
+      before = item;
     }
   }
 
   make(name) {
-    const id = `m${count += 1}`;
-    const card = { name, id, isOwn: false, link: el('a'), where: el('small'), tsat: el('b', { class: 'tsat' }), ahead: el('span'), why: el('p'),
-      field: el('input', { id, name: 'tobt', inputmode: 'numeric', size: 6, maxlength: 8, autocomplete: 'off' }), button: el('button', {}, 'Send TOBT'),
-      reply: el('p', { class: 'reply', tabindex: -1, hidden: true }) };
-    const steps = STEPS.map((by) => {
-      const button = el('button', { type: 'button', 'aria-label': `TOBT ${by > 0 ? `${by} minutes later` : `${-by} minutes earlier`}` }, by > 0 ? `+${by}` : `−${-by}`);
-      button.addEventListener('click', () => this.step(card, by));
-      return button;
-    });
-    card.form = el('form', { 'aria-label': `TOBT of ${name}` }, el('label', { for: id }, 'TOBT '), card.field, ...steps, card.button, card.reply);
-    card.root = el('li', { 'data-flight': name }, el('h3', {}, card.link, ' ', card.where), el('p', { class: 'start' }, card.tsat, ' ', card.ahead), card.why, card.form);
-    named(card.link, name);
-    card.field.addEventListener('input', () => { card.isOwn = true; });
-    card.form.addEventListener('submit', (event) => {
-      event.preventDefault();
-      this.post(card);
-    });
+    const card = new Card(name, { day: this.day, onSend: this.send, kinds: () => this.kindsOf(name) });
     this.cards.set(name, card);
     return card;
   }
 
-  write(card, row) {
-    const { date, now } = this.day;
-    const mark = this.moves.mark(row.flight);
-    const warned = current.list.filter((one) => one.flight === row.flight).map((one) => one.kind);
-    const cause = this.causeOf(row.flight);
-    const minutes = row.tsat ? minutesFrom(now, row.tsat) : null;
-    say(card.where, [row.runway ?? 'no runway', row.stand && `stand ${row.stand}`].filter(Boolean).join(', '));
-    say(card.tsat, row.tsat ? hm(row.tsat, date) : statusWord(row.status));
-    say(card.ahead, mark || (row.status !== 'PLANNED' ? [row.tsat && statusWord(row.status), row.rule].filter(Boolean).join(' ') : minutes > 0 ? `in ${minutes}` : 'now'));
-    card.root.classList.toggle('moved', mark !== null);
-    const words = [row.delay ? `${isLate(row) ? 'late ' : 'delay '}${row.delay}` : '', row.ctot && `CTOT ${hm(row.ctot, date)}`, this.moves.sinceText(row.flight)].filter(Boolean).join(' · ');
-    card.why.replaceChildren(...warned.flatMap((kind) => [el('b', { class: 'tag' }, kind), ' ']), ...(cause ? [el('b', { class: `cause k${LETTERS[cause] ?? ''}` }, REASONS[cause] ?? cause), ' '] : []), words);
-    card.form.hidden = !takesKind(row.status, 'TOBT') || !this.desk.kindsOf(row.flight).some((one) => one.kind === 'TOBT');
-    if (!card.isOwn && document.activeElement !== card.field) card.field.value = row.tobt ? hm(row.tobt, date) : '';
+  /** The kinds of records that the desk may send of a flight. */
+  kindsOf(name) {
+    return this.desk.kindsOf(name).map((one) => one.kind);
   }
 
-  /** Its TOBT so many minutes later, as a proposal: from what stands in the field, else from NOW. */
-  step(card, by) {
-    const said = typed(card.field.value, this.day.date);
-    const from = /^\d{4}-\d\d-\d\dT\d\d:\d\dZ$/.test(said) ? said : this.day.now;
-    card.isOwn = true;
-    card.field.value = hm(later(from, by), this.day.date);
-  }
-
-  post(card) {
-    card.button.disabled = true;
-    card.reply.hidden = true;
-    this.send({ id: card.id, root: card.form, told: (order) => this.told(card, order) }, `TOBT,${card.name},${typed(card.field.value, this.day.date)}`, newKey());
-  }
-
-  /** What became of the record. */
-  async told(card, { word, reply, detail }) {
-    const row = reply?.changes?.find((one) => one.flight === card.name) ?? this.day.rows.get(card.name);
-    const then = row?.tsat ? `Start-up ${hm(row.tsat, this.day.date)}.` : row ? `${statusWord(row.status)} ${row.rule ?? ''}.` : '';
-    const words = { taken: `Accepted. ${then}`, refused: `Refused, ${reply?.word}. Nothing is changed.`, 'not known': `No reply. Send it again: it is taken once. ${detail}.` }[word] ?? `Not sent. ${detail}.`;
-    if (word === 'taken') card.isOwn = false;
-    card.button.disabled = false;
-    say(card.reply, words);
-    card.reply.classList.toggle('good', word === 'taken');
-    card.reply.hidden = false;
-    card.reply.focus({ preventScroll: true });
+  write(row) {
+    const { flight } = row;
+    const card = this.cards.get(flight) ?? this.make(flight);
+    card.write(row, { mark: this.moves.mark(flight), cause: this.causeOf(flight), since: this.moves.sinceText(flight),
+      warned: current.list.filter((one) => one.flight === flight).map((one) => one.kind), takes: takesKind(row.status, 'TOBT') && this.kindsOf(flight).includes('TOBT') });
   }
 
   /** What a record changed; its own moves aren't news to a desk. */

@@ -1,4 +1,5 @@
-// The program's picture (SVG). Its shapes and texts are taken over one by one into a tree of their own; nothing else is.
+// The program's picture (SVG). Its shapes and texts are taken over one by one into a tree of their own; nothing else is. It is loaded when a
+// picture is first asked for.
 import { $, say } from './dom.js';
 import { Problem, ask } from './net.js';
 
@@ -24,11 +25,6 @@ function taken(node) {
 export class Picture {
   constructor() {
     Object.assign(this, { root: $('#picture'), asked: -PAUSE, from: null });
-    $('#b-picture').addEventListener('click', (event) => {
-      if (event.ctrlKey || event.metaKey || event.shiftKey) return;
-      event.preventDefault();
-      this.show('');
-    });
     $('button', this.root).addEventListener('click', () => this.close());
     this.root.addEventListener('keydown', (event) => {
       if (event.key !== 'Escape') return;

@@ -13,13 +13,6 @@ const NAMED = 8; // flights that changed, by name
 const NOT_KNOWN = 'It isn’t known whether the record was taken. Send it again: it is taken once.';
 let count = 0;
 
-/** Which flights a record changed. */
-function changedText(reply) {
-  const names = (reply.changes ?? []).map((row) => row.flight);
-  const what = names.length === 1 ? 'This flight' : `${names.length} flights`;
-  return names.length ? `${what} changed: ${names.slice(0, NAMED).join(', ')}${names.length > NAMED ? ' …' : ''}.` : 'No flight changed.';
-}
-
 export class Sender {
   /** day; onSend(sender, line, key); word: of the button; inputs: what is filled in; kinds(): which kinds of records the desk may send. */
   constructor({ day, onSend, word, inputs, label, kinds }) {
@@ -96,6 +89,13 @@ export class Sender {
     this.reply.classList.add('asks');
   }
 
+  /** Which flights a record changed. */
+  changedText(reply) {
+    const names = (reply.changes ?? []).map((row) => row.flight);
+    const what = names.length === 1 ? 'This flight' : `${names.length} flights`;
+    return names.length ? `${what} changed: ${names.slice(0, NAMED).join(', ')}${names.length > NAMED ? ' …' : ''}.` : 'No flight changed.';
+  }
+
   rowOf(line) {
     return this.day.rows.get(flightOf(line, this.day)) ?? null;
   }
@@ -129,7 +129,7 @@ export class Sender {
     this.said = '';
     this.effect.clear();
     const { line, row, isBack } = this.sent;
-    this.answer(isBack ? 'Taken back.' : 'Accepted.', changedText(reply), reply, true);
+    this.answer(isBack ? 'Taken back.' : 'Accepted.', this.changedText(reply), reply, true);
     const back = undoing(line, row);
     if (back && this.maySend().includes(back.split(',', 1)[0])) this.offerBack(back);
     else this.undo.hidden = true;

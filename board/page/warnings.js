@@ -7,6 +7,7 @@ import { hm } from './times.js';
 const MOST = 8;
 const FEW = 3; // so many are said one by one
 const NEW = 60000;
+const LABEL = /\b([A-Z]{4}) (?=\d)/g; // it stays with its time
 const TIME = /^\d{4}-\d\d-\d\dT\d\d:\d\dZ$/;
 const AGING = NEW / 4; // how often it is looked which are still new
 /** Red, to be acted on now: flights that are at their stand, and have no minute though somebody expects one of them. */
@@ -29,16 +30,16 @@ const FREES = { CTOT: 'Send an earlier TOBT.', CLOSURE: 'Open the runway (OPEN),
  * that one of them begins with.
  */
 const KINDS = {
+  BLOCKED: { facts: (one) => one.rule ?? '', answers: ['TOBT', 'RWY', 'STAND', 'CTOT', 'PRIO'],
+    means: (one) => (LACKS[one.rule] ? `It has no start-up time, as it lacks what ${one.rule} asks for.` : `It has no start-up time: ${one.rule} leaves it no minute.`),
+    act: (one, at) => LACKS[one.rule] ?? (one.ctot ? `${FREES[one.rule] ?? FREES.RATE} Or ask the Network Manager for a later CTOT than ${at(one.ctot)}.`
+      : 'Send an earlier TOBT, or open the runway (OPEN).') },
   OVERDUE: { facts: (one, at) => `TTOT ${at(one.ttot)}`, answers: ['AIR'], time: (one) => one.ttot,
     means: (one, at) => `It left its stand, its TTOT ${at(one.ttot)} is more than 5 minutes ago, and no AIR has come.`,
     act: 'If it has taken off, send AIR with its take-off time; if it hasn’t, ask where it is.' },
   MISSED: { facts: (one, at) => `CTOT ${at(one.ctot)}`, answers: ['AIR'],
     means: (one, at) => `It left its stand, and takes off after the window of its CTOT ${at(one.ctot)}.`,
     act: 'Tell the Network Manager. If it took off within its window, send AIR with that time; no CTOT is taken any more.' },
-  BLOCKED: { facts: (one) => one.rule ?? '', answers: ['TOBT', 'RWY', 'STAND', 'CTOT', 'PRIO'],
-    means: (one) => (LACKS[one.rule] ? `It has no start-up time, as it lacks what ${one.rule} asks for.` : `It has no start-up time: ${one.rule} leaves it no minute.`),
-    act: (one, at) => LACKS[one.rule] ?? (one.ctot ? `${FREES[one.rule] ?? FREES.RATE} Or ask the Network Manager for a later CTOT than ${at(one.ctot)}.`
-      : 'Send an earlier TOBT, or open the runway (OPEN).') },
   EDGE: { facts: (one, at) => `CTOT ${at(one.ctot)} TTOT ${at(one.ttot)}`, answers: ['PRIO', 'CTOT'],
     means: (one, at) => `Its TTOT ${at(one.ttot)} is among the last 3 minutes of the window of its CTOT ${at(one.ctot)}.`,
     act: 'See that it isn’t late. PRIO puts it further ahead; a later CTOT gives it room.' },
@@ -144,7 +145,7 @@ export class Warnings {
   itemsOf(kind, mine) {
     if (!mine.length) return [];
     const at = (time) => hm(time, this.day.date);
-    const said = (one) => (one.kind === 'BLOCKED' ? '' : ` ${kindOf(one.kind).facts(one, at)}`);
+    const said = (one) => (one.kind === 'BLOCKED' ? '' : ` ${kindOf(one.kind).facts(one, at).replaceAll(LABEL, '$1\u00a0')}`);
     const fresh = (ones) => (ones.some((one) => this.isNew(one)) ? el('em', {}, 'new') : null);
     const name = `w ${Object.hasOwn(KINDS, kind) ? kind : 'other'}`;
     const all = kind === 'BLOCKED' ? this.blocked() : 0;

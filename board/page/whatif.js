@@ -1,4 +1,5 @@
 // What-if: a box for scenarios, their comparison, what moves, and the picture of both. Nothing of it changes the day.
+import { DelayByCause, causesOf, comparison } from './beside.js';
 import { $, el, say } from './dom.js';
 import { findings, signed } from './effect.js';
 import { RecordForm } from './form.js';
@@ -16,6 +17,8 @@ const LINKED = 'scenarios'; // in the address
 const MOST_LINK = 6000; // characters of an address
 const FIRST = 'SCENARIO,A';
 const EMPTY = /^(SCENARIO,NAME)?\s*$/;
+const MOST_BESIDE = 4; // scenarios whose loads and causes are shown at once
+const GAP = 8; // px
 const COLUMNS = ['placed', 'delay', 'max', 'late', 'blocked', 'moved'];
 
 /** The form that desks have; what it makes goes into the last scenario, and its onSend(line) says into which. */
@@ -36,19 +39,25 @@ class ScenarioForm extends RecordForm {
 
 export class WhatIf {
   constructor({ day, bands, picture, desk, runways, send }) {
-    Object.assign(this, { day, bands, picture, desk, runways, onSend: send, asked: 0, form: null, compared: '' });
+    Object.assign(this, { day, bands, picture, desk, runways, onSend: send, asked: 0, form: null, compared: '', isOpen: false });
     this.box = $('#scenario');
+    this.base = el('select');
+    this.against = el('p', { hidden: true }, el('label', {}, 'Difference to ', this.base));
+    this.axis = el('div', { id: 'wi-axis' });
+    this.causes = new DelayByCause();
+    this.base.addEventListener('change', () => this.compare(this.compared));
+    addEventListener('layout', () => this.place());
     this.link = el('a', { id: 'wi-link', hidden: true }, 'Link to these scenarios');
     [this.sends, this.note] = sender('wi-why', '');
     Object.assign(this.sends, { type: 'button', id: 'wi-send', hidden: true });
     this.sent = el('p', { class: 'reply', id: 'wi-sent', tabindex: -1, hidden: true });
     this.sending = { id: 'what-if', root: this.sent, told: (order) => this.told(order) };
     $('#scenario-h').after(this.link);
-    $('#wi-head').before(this.sends, this.note, this.sent);
+    $('#h-wm').before(this.sends, this.note, this.sent, this.against, this.axis, this.causes.root);
     this.sends.addEventListener('click', () => this.send());
     this.box.addEventListener('input', () => this.keep());
     this.recall();
-    $('#b-pictures').addEventListener('click', () => this.picture.show(this.names.length ? this.text : '', this.names));
+    $('#b-pictures').addEventListener('click', async () => (await this.picture()).show(this.names.length ? this.text : '', this.names));
   }
 
   open() {
@@ -57,7 +66,18 @@ export class WhatIf {
     this.keep();
     this.makeForm();
     say($('#wi-at'), `over the day at record ${this.day.position}`);
-    this.beside([]);
+    this.isOpen = true;
+    this.place();
+    this.beside([{ name: '', runways: [] }]);
+  }
+
+  /** Where the panel covers the page, the runways, which are the scenarios' axis of time, are in it. */
+  place() {
+    const [runways, isIn] = [$('#runways'), this.isOpen && document.documentElement.classList.contains('l-narrow')];
+    if (isIn === (runways.parentNode === this.axis)) return;
+    if (isIn) this.axis.append(runways);
+    else $('#left').prepend(runways);
+    if (isIn) runways.inert = false;
   }
 
   /** The form that desks have, of all kinds of records: what it makes goes into the last scenario. */
@@ -175,13 +195,15 @@ export class WhatIf {
   }
 
   close() {
+    this.isOpen = false;
+    this.place();
     this.beside(null);
     $('#wi-answer').hidden = true;
   }
 
-  /** The second row of the bands: its place is there as long as the panel is open. */
-  beside(loads) {
-    turn.take(() => this.bands.beside(loads));
+  /** The scenarios' rows of the bands: the place of one is there as long as the panel is open. */
+  beside(plans, base = null) {
+    turn.take(() => this.bands.beside(plans, base));
   }
 
   fault(words) {
@@ -203,35 +225,71 @@ export class WhatIf {
   }
 
   /** Compares them; `name` is the scenario whose flights are shown. */
-  async compare(name = this.names[0]) {
+  async compare(name = this.names.includes(this.compared) ? this.compared : this.names[0]) {
     const number = this.asked += 1;
     const body = this.text;
     this.fault('');
     if (!name) return this.fault('A scenario begins with a line SCENARIO,NAME.');
     try {
-      const options = { method: 'POST', body, accept: 'application/json' };
-      const { list, position } = await objects(`/v1/compare/${name}`, options);
-      if (number !== this.asked) return;
-      say($('#wi-at'), `over the day at record ${position}`);
-      this.table(list.filter((one) => 'scenario' in one), name);
-      this.moved(list.filter((one) => 'flight' in one), name);
-      this.offer(name);
-      $('#wi-answer').hidden = false;
-      $('#wi-head').focus({ preventScroll: true });
-      if (list.some((one) => 'word' in one)) await this.refused(body, number);
-      if (number !== this.asked) return;
-      if (list.some((one) => one.scenario === name && 'word' in one)) {
-        this.sends.hidden = true;
-        this.beside([]);
-        return;
-      }
-      const loads = await objects(`/v1/load.json?scenario=${name}`, { method: 'POST', body });
-      if (number !== this.asked) return;
-      this.beside(loads.list);
+      const found = await comparison(body, name, this.base.value || null);
+      if (number === this.asked) await this.show(found, name, body, number);
     } catch (problem) {
       if (!(problem instanceof Problem)) throw problem;
       if (number === this.asked) await this.failed(problem, body);
     }
+  }
+
+  /** What the program says of all, of the one that is chosen, and of how it differs from the day or from another one. */
+  async show({ lines, position, base, moved }, name, body, number) {
+    const areWrong = lines.filter((one) => 'word' in one).map((one) => one.scenario);
+    const plans = this.names.filter((one) => !areWrong.includes(one));
+    say($('#wi-at'), `over the day at record ${position}`);
+    this.offerBases(plans, name, base);
+    this.table(lines, name, base);
+    this.moved(moved, name, base);
+    this.offer(name);
+    $('#wi-answer').hidden = false;
+    if (document.activeElement !== this.base) this.toAnswer();
+    if (areWrong.length) await this.refused(body, number);
+    if (number !== this.asked) return;
+    this.causes.root.hidden = areWrong.includes(name);
+    if (!areWrong.includes(name)) return this.draw(plans, name, base, body, number);
+    this.sends.hidden = true;
+    this.beside([{ name: '', runways: [] }]);
+  }
+
+  /** What was asked for is in sight, below the panel's head; the page behind stays where it is. */
+  toAnswer() {
+    const [panel, head] = [$('#p-what-if'), $('#wi-head')];
+    panel.scrollTop += head.getBoundingClientRect().top - $('.ph', panel).getBoundingClientRect().bottom - GAP;
+    head.focus({ preventScroll: true });
+  }
+
+  /** What it may differ from: the day, or another scenario. */
+  offerBases(plans, name, base) {
+    const others = plans.filter((one) => one !== name);
+    this.against.hidden = !others.length || !plans.includes(name);
+    this.base.replaceChildren(el('option', { value: '' }, 'the day'), ...others.map((one) => el('option', {}, one)));
+    this.base.value = base ?? '';
+  }
+
+  /** The loads and the causes of the first of them, among which are the two that are compared. */
+  async draw(plans, name, base, body, number) {
+    const chosen = [...new Set([name, base, ...plans])].filter(Boolean).slice(0, MOST_BESIDE);
+    const names = plans.filter((one) => chosen.includes(one));
+    const [loads, causes] = [[], [await causesOf(body, null)]];
+    for (const one of names) {
+      const { list } = await objects(`/v1/load.json?scenario=${one}`, { method: 'POST', body });
+      loads.push({ name: one, runways: list, isChosen: one === name });
+      causes.push(await causesOf(body, one));
+      if (number !== this.asked) return;
+    }
+    this.causes.show(causes, name, base);
+    this.beside(loads, loads.find((one) => one.name === base)?.runways ?? null);
+    if (document.activeElement === $('#wi-head')) this.toAnswer(); // there is more below it now
+    const left = plans.length - names.length;
+    say($('#wi-note'), `In the runways’ bands ${names.length > 1 ? 'each scenario has its rows' : `the second row is ${name}`}; * marks a flight that isn’t in that cell `
+      + `${base ? `in ${base}` : 'now'}, and where it was its name is struck out.${left ? ` Of ${plans.length} scenarios ${names.length} are shown: choose another one in the table.` : ''}`);
   }
 
   /** Why there is no comparison: at its line, in the program's words, if it is what is written. */
@@ -271,11 +329,11 @@ export class WhatIf {
   /** What was compared before isn't shown beside a fault. */
   forget() {
     $('#wi-answer').hidden = true;
-    this.beside([]);
+    this.beside([{ name: '', runways: [] }]);
   }
 
-  table(lines, shown) {
-    const base = lines.find((one) => one.scenario === null);
+  table(lines, shown, base) {
+    const of = lines.find((one) => one.scenario === base);
     const rows = lines.map((one) => {
       const label = one.scenario ?? 'day';
       const title = one.scenario === null || lines.length <= 2 ? label : this.chooser(label, one.scenario === shown);
@@ -286,7 +344,7 @@ export class WhatIf {
     const mine = lines.find((one) => one.scenario === shown && !('word' in one));
     if (mine) {
       rows.push(el('tr', { class: 'diff' }, el('th', { scope: 'row' }, 'difference'), ...COLUMNS.slice(0, 5).map((name) => el('td', { class: 'n' },
-        signed(mine[name] - base[name]))), el('td')));
+        signed(mine[name] - of[name]))), el('td')));
     }
     $('#wi-table').replaceChildren(...rows);
   }
@@ -298,8 +356,11 @@ export class WhatIf {
     return button;
   }
 
-  moved(list, name) {
+  moved(list, name, base) {
     const { date } = this.day;
+    const heads = $('#wi-flights').parentNode.tHead.rows[0].cells;
+    say(heads[1], base ?? 'Day');
+    say(heads[2], base ? name : 'What-if');
     say($('#wi-moved'), list.length ? `${list.length === 1 ? '1 flight' : `${list.length} flights`}, TSAT or rule` : 'no flight');
     $('#wi-flights').replaceChildren(...list.map(({ flight, before, after }) => {
       const row = after ?? before;
@@ -308,6 +369,5 @@ export class WhatIf {
       return el('tr', {}, el('th', { scope: 'row' }, el('a', { href: `#${row.flight ?? flight}` }, flight)), el('td', {}, startUp(before, date)),
         el('td', {}, startUp(after, date)), el('td', {}, change));
     }));
-    say($('#wi-note'), `In the runways’ bands the second row is ${name}; * marks a flight that isn’t in that cell now.`);
   }
 }

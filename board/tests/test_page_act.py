@@ -280,11 +280,11 @@ def test_a_runway_is_closed_from_its_own_head(page):
     before = lines(shown)
     shown.click("#rw-09 button")
     assert shown.js("return document.activeElement.name") == "from"
-    shown.says("form[aria-label='Close runway 09']", f"to 06:20 Not now Close 09 Goes out as CLOSE,09,{at('05:50')},{at('06:20')}")
+    shown.says("form[aria-label='Close runway 09']", f"to 06:20 Close 09 Not now Goes out as CLOSE,09,{at('05:50')},{at('06:20')}")
     shown.says("form[aria-label='Close runway 09'] .effect", "Its effect: moves no flight.")
     shown.type(".band [name=from]", "0700")
     shown.choose(".band [name=length]", "45 min")
-    shown.says("form[aria-label='Close runway 09']", f"to 07:45 Not now Close 09 Goes out as CLOSE,09,{at('07:00')},{at('07:45')}")
+    shown.says("form[aria-label='Close runway 09']", f"to 07:45 Close 09 Not now Goes out as CLOSE,09,{at('07:00')},{at('07:45')}")
     shown.says("form[aria-label='Close runway 09'] .effect", "Its effect: 1 flight loses its CTOT; −13 min of delay in all.")
     assert lines(shown) == before
     shown.click("form[aria-label='Close runway 09'] button:not([type])")

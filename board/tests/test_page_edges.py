@@ -65,7 +65,8 @@ def test_each_reason_has_the_letter_of_the_picture(page):
 
 
 def test_many_warnings(page):
-    """Of twelve that are overdue and of ten that are blocked eight are named, and how many more there are; a press shows them."""
+    """Of twelve that are overdue and of ten that are blocked eight are named, and how many more there are; a press shows them. What is to be acted on
+    now is first."""
     out, held = [f"A{number:02}" for number in range(12)], [f"B{number:02}" for number in range(10)]
     day = {"AP": [f"FLT,{name},5" for name in out + held], "ATC": [f"RWY,{name},27L" for name in out + held],
            "AO": [f"TOBT,{name},{at('09:00')}" for name in held], "NM": [f"CTOT,{name},{at('07:00')}" for name in held]}
@@ -73,9 +74,9 @@ def test_many_warnings(page):
     fill(shown.server, {"ATC": [f"OFF,{name},{at('05:00')}" for name in out] + [f"CLOCK,{at('06:00')}"]})
     shown.open()
     warnings = shown.texts("#warnings li")
-    assert warnings[:2] == ["OVERDUE 12 " + " ".join(out[:8]) + " +4 more OVERDUE", "BLOCKED 10 " + " ".join(held[:8]) + " +2 more BLOCKED"]
+    assert warnings[:2] == ["BLOCKED 10 " + " ".join(held[:8]) + " +2 more BLOCKED", "OVERDUE 12 " + " ".join(out[:8]) + " +4 more OVERDUE"]
     shown.click("#warnings .OVERDUE button")
-    assert shown.texts("#warnings li")[0] == "OVERDUE 12 " + " ".join(out)
+    assert shown.texts("#warnings li")[1] == "OVERDUE 12 " + " ".join(out)
     assert shown.js("return document.activeElement.textContent") == "A00"
     shown.click("#warnings .BLOCKED button")
     shown.until("return location.search === '?status=blocked'")

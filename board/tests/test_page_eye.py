@@ -358,7 +358,7 @@ def test_several_operators(page):
 
 
 def test_nothing_is_said_before_it_is_known(page):
-    """No zero and nothing red until the plan has come."""
+    """No zero and nothing red until the plan has come, but places for the rows, which go when it has."""
     shown = page()
     driver = shown.driver
     script = driver.execute_cdp_cmd("Page.addScriptToEvaluateOnNewDocument", {"source": """const real = window.fetch;
@@ -370,8 +370,12 @@ def test_nothing_is_said_before_it_is_known(page):
         assert " 0 " not in f" {text} " and shown.texts("header dd") == ["–"] * 5 and shown.text("#h-b").startswith("Blocked …")
         assert shown.js("return getComputedStyle(document.querySelector('#blocked')).borderLeftColor") != shown.js(
             "const e = document.createElement('i'); e.style.color = 'var(--alarm)'; document.body.append(e); return getComputedStyle(e).color")
+        places = "const is = getComputedStyle(document.querySelector('#next .chunk'), '::after'); return [is.content !== 'none', parseFloat(is.height) >= 320]"
+        assert shown.js(places) == [True, True]
     finally:
         driver.execute_cdp_cmd("Page.removeScriptToEvaluateOnNewDocument", {"identifier": script["identifier"]})
+    shown.open()
+    assert shown.js(places)[0] is False
 
 
 def test_a_what_if_takes_hours_and_minutes(page):

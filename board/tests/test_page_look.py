@@ -28,13 +28,15 @@ return [scrollY > 0, Math.round(head.bottom * 16 / parseFloat(getComputedStyle(d
 
 @pytest.mark.parametrize("width", [1280, 1920, 3840])
 def test_the_line_of_state_stays(page, width):
-    """56 px at 1,280 px, of which nothing is covered; also where NOW has a date."""
+    """56 px at 1,280 px, of which nothing is covered; also where no CLOCK came, or NOW has a date."""
     names = [f"X{number:03}" for number in range(90)]
     shown = page(day={"AP": [f"FLT,{name},5" for name in names], "ATC": [f"RWY,{name},27L" for name in names] + [f"CLOCK,{at('05:50')}"]})
     size(shown.driver, width, 900)
     shown.open()
     state = lambda: shown.driver.execute_async_script(f"const done = arguments[0]; (async () => {{ {STATE} }})().then(done)")
     assert state() == [True, 57, [".now time", "#pills", "#b-act", "header dl", "#conn"]]
+    shown.js("document.querySelector('#no-clock').style.setProperty('display', 'block', 'important')")
+    assert shown.text("#no-clock").startswith("no CLOCK since ") and state()[:2] == [True, 57]
     fill(shown.server, {"ATC": ["CLOCK,2025-03-11T00:03Z"]})
     shown.says(".now", "11 00:03")
     assert state()[:2] == [True, 57]

@@ -6,6 +6,7 @@ from browser import size
 from selenium_or_none import Keys
 from test_page_desks import DENIED, sign_in
 from test_page_eye import BROKEN, CLIPPED, SPACED
+from test_page_rules import TARGETS
 
 OWN = {"atc": 'role = "ATC"\nclock = true', "ap": 'role = "AP"', "ao": 'role = "AO"', "nm": 'role = "NM"', "ground": 'role = "GH"\nflights = ["DLH", "EZY"]'}
 
@@ -60,6 +61,48 @@ def test_cards_on_a_phone(page):
     shown.js(SPACED)
     shown.until("return document.documentElement.classList.contains('l-spaced')")
     assert shown.js(CLIPPED) == [] and shown.js(BROKEN) == []
+
+
+def test_what_has_left_is_last(page):
+    """It waits for nothing that a handler could send. DLH1, at 06:00, is first until then."""
+    shown = opened(page, 360)
+    shown.until("return document.querySelectorAll('#mine li').length === 3")
+    shown.server.post("OFF,DLH1,2025-03-10T05:50Z", "atc")
+    shown.until("return [...document.querySelectorAll('#mine li')].map((one) => one.dataset.flight).join() === 'DLH2,EZY7,DLH1'")
+    assert not shown.find('#mine li[data-flight="DLH1"] form').is_displayed()
+
+
+def test_the_first_card_is_high(page):
+    """Above it is what the board says of all, in less than half of a phone's screen; also where no CLOCK came."""
+    shown = opened(page, 360)
+    shown.until("return document.querySelectorAll('#mine li').length === 3")
+    shown.js("document.querySelector('#no-clock').style.setProperty('display', 'block', 'important')")
+    assert shown.js("return document.querySelector('#mine li').getBoundingClientRect().top") < 320
+
+
+def test_a_card_says_the_effect_of_its_tobt(page):
+    """Before it is sent: DLH2 has the place of DLH1 then. A time in the past is asked about once, and what was sent is taken back."""
+    shown = opened(page, 360)
+    shown.until("return document.querySelectorAll('#mine li').length === 3")
+    card = '#mine li[data-flight="DLH1"]'
+    before = len(shown.server.records("atc"))
+    for _ in range(2):
+        shown.click(f'{card} [aria-label="TOBT 10 minutes later"]')
+    shown.says(f"{card} .effect", "Its effect: start-up 06:20 (now 06:00), moves 1 other flight; −5 min of delay in all.")
+    assert len(shown.server.records("atc")) == before and not shown.find(f"{card} .hint").is_displayed()
+    shown.click(f"{card} form button:not([type])")
+    shown.says(f"{card} .reply", "Accepted. Start-up 06:20.")
+    shown.says(f"{card} .undo", "Take back: TOBT DLH1 06:00 Its effect: start-up 06:00 (now 06:20), moves 1 other flight; +5 min of delay in all.")
+    for rule in (TARGETS, CLIPPED, BROKEN):
+        assert shown.js(rule) == []
+    shown.click(f"{card} .back")
+    shown.says(f"{card} .reply", "Taken back. Start-up 06:00.")
+    shown.until("return document.querySelector(arguments[0]).value === '06:00'", f"{card} input")
+    before = len(shown.server.records("atc"))
+    shown.type(f"{card} input", "0540")
+    shown.click(f"{card} form button:not([type])")
+    shown.says(f"{card} .reply", "Look again. 05:40 is 10 min before NOW, 05:50. Press Send TOBT even so if it is meant.")
+    assert len(shown.server.records("atc")) == before and shown.text(f"{card} form button:not([type])") == "Send TOBT even so"
 
 
 def test_the_bar_at_the_bottom(page):

@@ -1,5 +1,6 @@
 """The page over a full day: how soon it shows, how soon an event is seen, and that it never stalls. Limits are for an idle machine,
 multiplied by BOARD_PAGE_FACTOR. What is measured is the page: where the machine kept it from its work, it is measured again."""
+import itertools
 import json
 import time
 from concurrent.futures import ThreadPoolExecutor
@@ -238,3 +239,43 @@ def test_a_day_that_is_read_anew(shown):
         figure(f"page, {COUNT} flights, a CLOCK that changes {len(reply['changes'])}: shown in {seconds * 1000:.0f} ms, longest task {longest:.0f} ms")
         return found
     measured(shown, anew)
+
+
+# A thousand records a minute, of the kinds that a day has; each try has flights of its own.
+MINUTE, MOMENTS = 1000, 250
+FIRST = itertools.count(50, 50)
+
+
+def mixed(number, first):
+    """The record of a moment, and its role. Flights leave, and take off ten records later; others get another TOBT, CTOT or priority."""
+    away, kind = first + number // 5, number % 5
+    if number == MOMENTS // 2:
+        return "ATC", f"CLOCK,{at(440 + first // 50)}"
+    return [("AO", f"TOBT,{name_of(700 + away)},{at(600 + number % 200)}"), ("ATC", f"OFF,{name_of(away)},{at(360)}"),
+            ("ATC", f"AIR,{name_of(away - 2)},{at(361)}" if number >= 10 else f"PRIO,{name_of(1900 + number)},1"),
+            ("NM", f"CTOT,{name_of(900 + away)},{at(800 + number % 200)}"), ("ATC", f"PRIO,{name_of(1200 + away)},{number % 9}")][kind]
+
+
+@pytest.mark.parametrize("path", ["", "?op=DLH,BAW#DLH1000", "#act"], ids=["the tables", "a filter and a flight", "what to do"])
+def test_a_thousand_records_a_minute(shown, path):
+    """None of its tasks takes 200 ms, whatever is open; the most is said of all."""
+    def sent_at(number, began, start, taken):
+        time.sleep(max(0, began + number * 60 / MINUTE - time.monotonic()))
+        role, line = mixed(number, start)
+        taken.append(shown.server.post(line, Cdm_Role=role)[0]["reply"])
+
+    def followed():
+        shown.js("history.replaceState(null, '', '/' + arguments[0].split('#')[0]); dispatchEvent(new PopStateEvent('popstate')); location.hash = arguments[0].split('#')[1] ?? ''", path)
+        shown.js("document.querySelector('#causes').open = true")
+        time.sleep(2)
+        shown.js("window.long.length = 0")
+        start, began, taken = next(FIRST), time.monotonic(), []
+        with ThreadPoolExecutor(12) as pool:
+            list(pool.map(lambda number: sent_at(number, began, start, taken), range(MOMENTS)))
+        seconds = time.monotonic() - began
+        time.sleep(3)
+        found, longest = tasks(shown)
+        figure(f"page, {COUNT} flights, {MOMENTS * 60 / seconds:.0f} records a minute, {taken.count('ACCEPTED')} of {MOMENTS} accepted, {path or 'the tables'}: longest task {longest:.0f} ms")
+        assert taken.count("ACCEPTED") > 0.9 * MOMENTS and MOMENTS * 60 / seconds > 0.9 * MINUTE / FACTOR
+        return [(start, length, 2 * TASK, False) for start, length, *_ in found]
+    measured(shown, followed)
