@@ -54,12 +54,13 @@ def test_the_page_over_a_change_of_day(page):
     assert "TOBT" not in shown.text("#f-records")
 
 
-# The first and the last of what a box has, scrolled to: whether each is within the window.
+# The first and the last of what a box has, scrolled to: whether each is within the window; and whether the box is, from side to side.
 ENDS = """const box = document.querySelector('#day'), range = document.createRange();
 const where = (node) => { range.selectNode(node); return range.getBoundingClientRect(); };
 box.scrollTop = 0; const { top } = where(box.firstChild);
 box.scrollTop = box.scrollHeight; const { bottom } = where(box.lastElementChild);
-return [top >= 0, bottom <= innerHeight];"""
+const { left, right } = box.getBoundingClientRect();
+return [top >= 0, bottom <= innerHeight, left >= 0 && right <= innerWidth];"""
 CROWD = [f"X{number:03}" for number in range(60)]
 
 
@@ -72,7 +73,7 @@ def test_a_long_day_is_read_whole(page, width):
     shown.open()
     shown.click("#date")
     shown.says("#day", "EARLIER X059")
-    assert shown.js(ENDS) == [True, True]
+    assert shown.js(ENDS) == [True, True, True]
     shown.js("document.querySelector('#day').hidePopover()")
     assert shown.server.request("POST", "/v1/day?even=yes&day=2025-03-11", "", Cdm_Role="ATC").status == 200
     shown.says("h1", "Tue 11 Mar 2025")
@@ -80,7 +81,7 @@ def test_a_long_day_is_read_whole(page, width):
     shown.says("#day", "Plan of Mon 10 Mar 2025")
     shown.click("#day a")
     shown.until("return document.querySelectorAll('#day tbody tr').length === 60")
-    assert shown.js(ENDS) == [True, True]
+    assert shown.js(ENDS) == [True, True, True]
 
 
 def test_what_the_change_moved_was_moved_by_no_record(page):
@@ -151,6 +152,7 @@ def signed_and_not(page, second):
     other = Page(second, signed.server).open()
     signed.open("#sign-in")
     sign_in(signed, "atc")
+    signed.says("#desk", "atc")
     signed.is_ready()
     assert signed.text("#desk") == "atc" and other.text("#desk") == ""
     return signed, other
