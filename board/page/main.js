@@ -369,6 +369,7 @@ function showPlan({ changed, isFirst, isOther, isNext, isWhole }) {
     give({ type: 'seen', position: moves.seen.position });
   } else if (isNext) {
     moves.forget([...changed.keys()].filter((name) => !day.rows.has(name)));
+    moves.begin(changed);
   } else if (!isWhole) {
     moves.note(changed, null);
     mine?.moved(changed);

@@ -13,6 +13,9 @@ export const startUp = (row, date) => (!row ? 'unknown' : row.tsat ? hm(row.tsat
 const kept = (row, date) => (row.status === 'PLANNED' ? row.tsat : startUp(row, date));
 const isTime = (text) => /^\d{4}-/.test(text);
 
+/** Whether a flight's start-up is another one. */
+const isMoved = (before, after) => before.tsat !== after.tsat || before.status !== after.status || before.rule !== after.rule;
+
 /** Earlier, later, or another kind of entry. */
 const arrow = (before, after) => (!before?.tsat || !after.tsat ? '◆' : after.tsat < before.tsat ? '▲' : after.tsat > before.tsat ? '▼' : '◆');
 
@@ -34,7 +37,7 @@ export class Moves {
     for (const [name, [before, after]] of changed) {
       if (!before || !after) continue;
       this.recent.set(name, { before: this.recent.get(name)?.before ?? before, until });
-      if (before.tsat === after.tsat && before.status === after.status && before.rule === after.rule) continue;
+      if (!isMoved(before, after)) continue;
       count += 1;
       if (reply) this.moved(name, reply);
     }
@@ -84,6 +87,11 @@ export class Moves {
       delete this.seen?.rows[name];
     }
     if (this.seen) this.keep();
+  }
+
+  /** Another day has begun: what moved a flight in the day before isn't why the new one plans it otherwise. */
+  begin(changed) {
+    for (const [name, [before, after]] of changed) if (before && after && isMoved(before, after)) this.causes.set(name, [this.day.position, '']);
   }
 
   /** What was seen is kept for a page that is opened again on the same date. */

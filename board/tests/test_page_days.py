@@ -54,6 +54,53 @@ def test_the_page_over_a_change_of_day(page):
     assert "TOBT" not in shown.text("#f-records")
 
 
+# The first and the last of what a box has, scrolled to: whether each is within the window; and whether the box is, from side to side.
+ENDS = """const box = document.querySelector('#day'), range = document.createRange();
+const where = (node) => { range.selectNode(node); return range.getBoundingClientRect(); };
+box.scrollTop = 0; const { top } = where(box.firstChild);
+box.scrollTop = box.scrollHeight; const { bottom } = where(box.lastElementChild);
+const { left, right } = box.getBoundingClientRect();
+return [top >= 0, bottom <= innerHeight, left >= 0 && right <= innerWidth];"""
+CROWD = [f"X{number:03}" for number in range(60)]
+
+
+@pytest.mark.parametrize("width", [1280, 320])
+def test_a_long_day_is_read_whole(page, width):
+    """What to know before, and the plan of the day before, of more flights than the window has lines."""
+    shown = page(day={"AP": [f"FLT,{name},5" for name in CROWD], "ATC": [f"RWY,{name},27L" for name in CROWD] + ["CLOCK,2025-03-10T22:00Z"],
+                      "AO": [f"TOBT,{name},2025-03-10T23:30Z" for name in CROWD]})
+    size(shown.driver, width, 640)
+    shown.open()
+    shown.click("#date")
+    shown.says("#day", "EARLIER X059")
+    assert shown.js(ENDS) == [True, True, True]
+    shown.js("document.querySelector('#day').hidePopover()")
+    assert shown.server.request("POST", "/v1/day?even=yes&day=2025-03-11", "", Cdm_Role="ATC").status == 200
+    shown.says("h1", "Tue 11 Mar 2025")
+    shown.click("#date")
+    shown.says("#day", "Plan of Mon 10 Mar 2025")
+    shown.click("#day a")
+    shown.until("return document.querySelectorAll('#day tbody tr').length === 60")
+    assert shown.js(ENDS) == [True, True, True]
+
+
+def test_what_the_change_moved_was_moved_by_no_record(page):
+    """A TOBT before midnight becomes 00:00: no record of the day before is why."""
+    shown = page(day={"AP": ["FLT,AB1,5"], "ATC": ["RWY,AB1,27L", "CLOCK,2025-03-10T23:00Z"], "AO": ["TOBT,AB1,2025-03-10T23:30Z"]}).open()
+    fill(shown.server, {"AO": ["TOBT,AB1,2025-03-10T23:50Z"]})
+    shown.says('#next tr[data-flight="AB1"]', "was 23:30: TOBT 23:50, AO")
+    shown.js("""window.told = 0; const real = window.fetch; window.fetch = async (path, ...words) => {
+        const got = await real(path, ...words);
+        if (String(path).startsWith('/v1/records?since=')) setTimeout(() => { window.told += 1; }, 100);
+        return got; };""")
+    assert shown.server.request("POST", "/v1/day?even=yes&day=2025-03-11", "", Cdm_Role="ATC").status == 200
+    shown.says('#next tr[data-flight="AB1"]', "was 10 23:30")
+    shown.until("return window.told > 0")
+    assert "TOBT" not in shown.row("next", "AB1")[9]
+    fill(shown.server, {"AO": ["TOBT,AB1,2025-03-11T00:20Z"]})
+    shown.says('#next tr[data-flight="AB1"]', "was 10 23:30: TOBT 00:20, AO")
+
+
 # Ten flights that stay, on two runways, one of which de-ices and one of which has a slot; GO1 took off, GO2 is cancelled, and LE1 left its
 # stand at 23:50 and isn't airborne.
 STAY = [f"ST{number}" for number in range(10)]
@@ -105,6 +152,7 @@ def signed_and_not(page, second):
     other = Page(second, signed.server).open()
     signed.open("#sign-in")
     sign_in(signed, "atc")
+    signed.says("#desk", "atc")
     signed.is_ready()
     assert signed.text("#desk") == "atc" and other.text("#desk") == ""
     return signed, other

@@ -11,8 +11,8 @@ from conftest import ROOT
 
 SIMULATOR = ROOT / "board/tests/simulator/page.mjs"
 SCHEDULES = 50_000
-# The fault, the law that it breaks, a seed whose schedule shows it, and the edits: a file of the page, its words, and what stands there
-# instead.
+# The fault, the law that it breaks, a seed whose schedule shows it, with the simulator's word for its kind if it isn't of the usual one, and the
+# edits: a file of the page, its words, and what stands there instead.
 FAULTS = [
     ("a reset asks for the old position, of whichever log", "Arrives", 211, [
         ("answers.js", "this.need ? this.need.position :", "this.need ? Math.max(this.need.position, this.rows?.position ?? 0) :")]),
@@ -57,6 +57,10 @@ FAULTS = [
         ("reading.js", "was ? was.position - RECENT :", "was ? was.position - 1 :")]),
     ("totals that are newer than the rows are shown", "Shown", 21, [
         ("answers.js", "    if (ask.name === 'totals') this.holdTotals(", "    if (ask.name === 'totals') this.takeTotals(")]),
+    ("totals of a refused record that is lost are those of another one in its place", "Arrives", "5 --replaced", [
+        ("views.js", "      if (isSameMoment(held.of, rows)) this.takeTotals(", "      if (held) this.takeTotals(")]),
+    ("totals behind a refused record in the place of a lost one aren't asked for again", "Arrives", "5 --replaced", [
+        ("views.js", "      else this.questions.want('totals', this.at + this.chance() * SOON);\n", "")]),
     ("old totals aren't said to be old", "Shown", 4, [
         ("views.js", "const isOld = isOlder(of, this.rows);", "const isOld = false;")]),
     ("a change of day keeps the old date", "Shown", 2, [
@@ -131,10 +135,11 @@ def test_no_schedule_breaks_a_law():
 
 @pytest.mark.parametrize(("law", "seed", "edits"), [words[1:] for words in FAULTS], ids=[words[0] for words in FAULTS])
 def test_a_fault_is_found_by_its_seed(tmp_path, law, seed, edits):
-    status, said = simulated("--schedules", "1", "--seed", str(seed), page=page_with(edits, tmp_path))
-    assert status == 1 and f"seed {seed} breaks {law}: " in said, said
+    words = ["--schedules", "1", "--seed", *str(seed).split()]
+    status, said = simulated(*words, page=page_with(edits, tmp_path))
+    assert status == 1 and f"seed {words[3]} breaks {law}: " in said, said
     # The page as it is holds the law in the same schedule.
-    assert simulated("--schedules", "1", "--seed", str(seed))[0] == 0
+    assert simulated(*words)[0] == 0
 
 
 DRIVEN = """
@@ -346,7 +351,7 @@ def test_the_day_is_shown_where_events_dont_come():
 
 if __name__ == "__main__":
     # After a change of the page or of the simulator a fault may show in another schedule: prints the first one of each.
-    for fault, law, _, edits in FAULTS:
+    for fault, law, seed, edits in FAULTS:
         with tempfile.TemporaryDirectory() as folder:
-            told = simulated("--schedules", "50000", "--until", law, page=page_with(edits, Path(folder)))[1]
+            told = simulated("--schedules", "50000", "--until", law, *str(seed).split()[1:], page=page_with(edits, Path(folder)))[1]
         print(fault, re.findall(r"seed (\d+) breaks", told), told.splitlines()[-1], sep=": ", flush=True)

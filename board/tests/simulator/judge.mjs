@@ -1,5 +1,5 @@
 // What a screen shows by the machine's orders, and the laws to which it is held.
-import { FLIGHTS, nowOf, rowsOf, totalsOf } from './servers.mjs';
+import { FLIGHTS, delayOf, nowOf } from './servers.mjs';
 
 const TOLD = 20000; // ms within which a silent break is told
 const OF_A_DAY = ['records', 'log']; // panels that list what came in the day
@@ -130,8 +130,8 @@ export class Judge {
   }
 
   checkRows(isOld) {
-    const shown = this.stamps(this.rows);
-    const moment = this.moment;
+    const shown = this.stamps();
+    const { moment } = this;
     const day = this.pasts(moment).find((state) => this.stampsOf(moment.log, state) === shown && state.date === this.date);
     const log = this.world.logs.find((one) => one.id === moment.log);
     if (!day) {
@@ -142,15 +142,19 @@ export class Judge {
     // Two pasts under one name: which of them an answer is of, only the server that still has the lost one can say, as soon as it sees it.
     const isCurrent = log === this.world.log && log.states[moment.position] === day;
     if (!this.totals || this.isTotalsOld || isOld || !isCurrent) return;
-    if (this.totals.delay !== totalsOf(moment.log, day).delay) throw new Broken('Shown', `the totals ${this.totals.delay} are of another moment than the rows ${moment.log}/${day.stamp}, and that isn't said`);
+    if (this.totals.delay !== delayOf(moment.log, day)) throw new Broken('Shown', `the totals ${this.totals.delay} are of another moment than the rows ${moment.log}/${day.stamp}, and that isn't said`);
   }
 
-  stamps(rows) {
-    return FLIGHTS.map((name) => rows.get(name)?.tsat ?? null).join();
+  /** The moments that changed the rows that are shown. */
+  stamps() {
+    let text = '';
+    for (const name of FLIGHTS) text += `,${this.rows.get(name)?.tsat ?? ''}`;
+    return text;
   }
 
+  /** The same of the day of a moment; it is made once. */
   stampsOf(log, state) {
-    return state.stamps.map((stamp) => (stamp === null ? null : `${log}/${stamp}`)).join();
+    return state.shown ??= state.stamps.map((stamp) => (stamp === null ? ',' : `,${log}/${stamp}`)).join('');
   }
 
   // Arrives: when the network has been quiet.
@@ -168,7 +172,7 @@ export class Judge {
     const server = world.servers[0];
     if (machine.state !== (server.staleSince ? 'behind' : 'live')) throw new Broken('Arrives', `the state is ${machine.state} when all has been quiet`);
     const truth = `${world.log.id}: ${this.stampsOf(world.log.id, world.log.states.at(-1))}`;
-    const shown = `${machine.rows.log}: ${this.stamps(this.rows)}`;
+    const shown = `${machine.rows.log}: ${this.stamps()}`;
     if (shown !== truth) throw new Broken('Arrives', `shown is ${shown}, the day is ${truth}`);
     if (this.date !== world.log.states.at(-1).date || this.machine.day.now !== nowOf(world.log.states.at(-1))) throw new Broken('Arrives', `the date or NOW is another one`);
     this.checkBoxes();
@@ -179,8 +183,8 @@ export class Judge {
   checkBoxes() {
     const { world, machine } = this;
     const stamp = world.log.states.at(-1).stamp;
-    const totals = totalsOf(world.log.id, world.log.states.at(-1)).delay;
-    if (this.totals?.delay !== totals || this.isTotalsOld) throw new Broken('Arrives', `the totals are ${this.totals?.delay}, of the day ${totals}`);
+    const totals = delayOf(world.log.id, world.log.states.at(-1));
+    if (this.totals?.delay !== totals || this.isTotalsOld) throw new Broken('Arrives', `the totals are ${this.totals?.delay}${this.isTotalsOld ? ', said to be old' : ''}, of the day ${totals}`);
     const names = ['next', 'warnings', 'load'];
     if (machine.panel.open === 'flight') names.push('records');
     for (const name of names) {

@@ -1,6 +1,6 @@
 // Drives the page's own machine through schedules drawn by a seed, against a model of servers, and holds it to its laws.
-//   node board/tests/simulator/page.mjs [--schedules N] [--seed N] [--page FOLDER] [--told] [--until LAW]
-// By --until the first schedule that breaks this law is the last one.
+//   node board/tests/simulator/page.mjs [--schedules N] [--seed N] [--page FOLDER] [--told] [--until LAW] [--replaced]
+// By --until the first schedule that breaks this law is the last one. By --replaced they are those of a record that is lost and replaced.
 // The last line says how many schedules were run and how many broke a law; before it, of each that did, its seed, the law and why.
 import { resolve } from 'node:path';
 import { fileURLToPath, pathToFileURL } from 'node:url';
@@ -141,14 +141,47 @@ class Schedule {
   }
 }
 
-/** Runs schedules from a seed on. */
-export async function run({ folder, schedules, seed, until, isTold = false }) {
+/**
+ * A schedule that is hardly ever drawn. Totals came of a refused record, of which the events say nothing; they wait for the word that nothing
+ * came between. Then the log loses that record, and takes another refused one in its place, before the server of the events has heard of
+ * either. Nothing else happens.
+ */
+class Replaced extends Schedule {
+  run() {
+    const { world, world: { servers: [first, second] } } = this;
+    Object.assign(world, { isQuiet: true, isLossy: true, isOpen: true, cookie: null, hasViews: false });
+    this.give({ type: 'start' });
+    this.until(8000);
+    second.lag = 0;
+    this.commit(true, true, 1000);
+    Object.assign(second, { lag: 30000 });
+    this.commit(false, false, 3000);
+    world.away(100);
+    this.until(world.at + 400);
+    first.lag = second.lag = 0;
+    this.commit(false, true, 3 * ARRIVES);
+    this.judge.checkEnd();
+  }
+
+  /** A record of somebody, accepted or not; one that isn't sure is lost as soon as the log is away. */
+  commit(isAccepted, isSure, pause) {
+    const { world } = this;
+    const draw = () => world.draw(world.log);
+    let record = draw();
+    while (record.isAccepted !== isAccepted || record.isBig || record.isClock) record = draw();
+    world.commit(Object.assign(record, { isSure }));
+    this.until(world.at + pause);
+  }
+}
+
+/** Runs schedules of a kind from a seed on. */
+export async function run({ Kind = Schedule, folder, schedules, seed, until, isTold = false }) {
   const { Machine } = await import(pathToFileURL(resolve(folder, 'machine.js')));
   const failed = [];
   const began = process.cpuUsage();
   let steps = 0;
   for (let number = 0; number < schedules; number += 1) {
-    const schedule = new Schedule(Machine, seed + number, isTold);
+    const schedule = new Kind(Machine, seed + number, isTold);
     try {
       schedule.run();
     } catch (fault) {
@@ -164,7 +197,8 @@ export async function run({ folder, schedules, seed, until, isTold = false }) {
 const words = process.argv.slice(2);
 const said = (name, otherwise) => (words.includes(`--${name}`) ? words[words.indexOf(`--${name}`) + 1] : otherwise);
 const schedules = Number(said('schedules', 50000));
-const { failed, steps, seconds } = await run({ folder: said('page', resolve(HERE, '../../page')), schedules, seed: Number(said('seed', 1)), until: said('until'), isTold: words.includes('--told') });
+const Kind = words.includes('--replaced') ? Replaced : Schedule;
+const { failed, steps, seconds } = await run({ Kind, folder: said('page', resolve(HERE, '../../page')), schedules, seed: Number(said('seed', 1)), until: said('until'), isTold: words.includes('--told') });
 for (const { seed, law, why } of said('until') ? failed.slice(-1) : failed.slice(0, MOST_TOLD)) console.log(`seed ${seed} breaks ${law}: ${why}`);
 const laws = [...new Set(failed.map((one) => one.law))].map((law) => `${failed.filter((one) => one.law === law).length} ${law}`);
 console.log(`${schedules} schedules, ${steps} steps, ${seconds.toFixed(1)} s of a processor: ${failed.length} broke a law${laws.length ? ` (${laws.join(', ')})` : ''}`);

@@ -1,6 +1,6 @@
 // A model of the network between a page and its servers, and of whoever else speaks: what happens when is drawn by a seed.
 import { Agenda } from './chance.mjs';
-import { Log, Server, changeOf, recordOf, textOf, wordOf } from './servers.mjs';
+import { Log, Server, changeOf, recordOf, wordOf } from './servers.mjs';
 
 const COMMENT = 15000; // ms between two comments of a stream
 const TOGETHER = 100; // ms: events are written together
@@ -404,7 +404,7 @@ export class World {
   }
 
   found(server, list, isOfDay) {
-    return { type: 'answer', id: 0, status: 200, text: typeof list === 'string' ? list : textOf(list), detail: '', retry: 0, isOwn: true, log: isOfDay ? server.log.id : '',
+    return { type: 'answer', id: 0, status: 200, text: typeof list === 'string' ? list : list.map((one) => JSON.stringify(one)).join('\n'), detail: '', retry: 0, isOwn: true, log: isOfDay ? server.log.id : '',
       position: isOfDay ? server.has : NaN, lastAt: isOfDay ? server.lastAt(server.has) : undefined, stale: isOfDay ? server.staleSince : undefined };
   }
 
