@@ -110,7 +110,7 @@ def test_pages_repeat_what_is_there():
     ("docs/DEFINITIONS.md", "`cdm_row/specs/Json.antt`", "`cdm_row/specs/Text.antt`",
      "docs/DEFINITIONS.md: no file of a crate is cdm_row/specs/Text.antt"),
     ("README.md", "`cdm_feed::run_asked`, the call", "`cdm_feed::run`, the call",
-     "README.md: the call behind `plan` isn't one that crates/cdm_main/src/main.rt makes"),
+     "README.md: the call behind `plan` isn't one that crates/cdm_ask/src/asking.rt makes"),
     ("docs/PROVED.md", "the clause `passed` says", "the clause `passed_on` says", "docs/PROVED.md: `passed_on`: no passed_on in the code"),
     ("docs/DECISIONS.md", "**`judge` returns", "**`judge_of` returns", "docs/DECISIONS.md: `judge_of`: no judge_of in the code"),
     ("docs/DECISIONS.md", "(`TAKING_LIMIT` of", "(`TAKING_BOUND` of", "docs/DECISIONS.md: `TAKING_BOUND`: no TAKING_BOUND in the code"),
