@@ -260,7 +260,7 @@ def test_what_pages_add_to_the_unit_keeps_its_options():
     """A board with TLS or a log in PostgreSQL has a change of day, too; who pastes the lines has no root certificate in a home."""
     starts = re.findall(r"^ExecStart=/((?:.*\\\n)*.*)$", "\n".join((ROOT / f"docs/{name}.md").read_text() for name in ("RUN", "POSTGRES")), re.M)
     assert len(starts) == 2 and all(start.split()[-2:] == ["$DAY", "$OPTIONS"] for start in starts)
-    assert "sslmode=verify-full&sslrootcert=/" in starts[1]
+    assert "sslmode=verify-full&sslrootcert=/" in starts[1] and " HOME=${RUNTIME_DIRECTORY} " in starts[1]
 
 
 def test_each_option_of_the_server_is_explained_to_who_runs_it():
