@@ -63,7 +63,8 @@ async def connect(url: str, name: str = "cdmboard") -> Any:
                 connection.terminate()
     except FAULTS as why:
         raise Away(str(why) or type(why).__name__) from None
-    except ValueError as why:
+    # The driver looks for its files in the user's home, which a service may lack.
+    except (ValueError, RuntimeError) as why:
         raise Fault(f"{name_of(url)}: {why}", 2) from None
     if is_standby:
         raise Away("a standby")
