@@ -16,6 +16,9 @@ use thiserror::Error;
 /// The status where the words name no command.
 const USAGE_STATUS: u8 = 2;
 
+/// The bytes of stack with which every command works (local profile).
+pub const LEAST_STACK: u64 = 327_680;
+
 /// What stops the program.
 #[derive(PartialEq, Eq, Debug, Drop, Error)]
 pub enum Fault {
@@ -25,6 +28,9 @@ pub enum Fault {
     /// Want of memory before the run.
     #[error("out of memory")]
     NoMemory,
+    /// The system gives the program so many bytes of stack, fewer than [`LEAST_STACK`].
+    #[error("the stack has {0} bytes, and {LEAST_STACK} are needed")]
+    ShortStack(u64),
     /// The run has not written its whole text.
     #[error(transparent)]
     Run(#[from] RunError),
@@ -84,6 +90,7 @@ impl Fault {
             | Fault::JournalNoFile(_)
             | Fault::JournalInUse(_)
             | Fault::NoMemory
+            | Fault::ShortStack(_)
             | Fault::Serve(ServeError::Port(_) | ServeError::TooMany)
             | Fault::Live(LiveError::Mismatch) => 1,
         }

@@ -6,7 +6,7 @@ mod served;
 mod shell;
 mod unopened;
 
-pub use fault::{Fault, report_command_fault, report_fault, run_status};
+pub use fault::{Fault, LEAST_STACK, report_command_fault, report_fault, run_status};
 pub use served::{ServedFiles, report_served_fault};
 pub use shell::ShellWord;
 pub use unopened::{OpenReason, PathText, ShownPath, UnopenedFile};

@@ -10,6 +10,7 @@ mod explaining;
 mod files;
 mod names;
 mod refused;
+mod stack;
 mod standard;
 
 use crate::console::Console;
@@ -17,6 +18,7 @@ use crate::ending::{Ending, Unended};
 use crate::explaining::{explanation, wrong_feed};
 use crate::files::{open, open_named, shown, shown_path, unopened};
 use crate::refused::tell_refused;
+use crate::stack::short_stack;
 use crate::standard::{Closed, Standard, unread};
 use cdm_check::FilePaths;
 pub use cdm_command::{Command, CommandFault, DayFiles, command_of};
@@ -48,6 +50,11 @@ const LONGEST_WORD: usize = 131_072;
 
 fn main(rt: HostRuntime) -> ExitCode {
     let standard = Standard::fill(&rt);
+    if let Some(bytes) = short_stack(&rt) {
+        let fault = Fault::ShortStack(bytes);
+        let errors = &mut Device::new(rt.stderr());
+        return ExitCode::from(report_fault(&fault, errors));
+    }
     let mut out = Device::new(rt.stdout());
     let errors = rt.stderr();
     let is_terminal = errors.is_terminal();
@@ -62,7 +69,8 @@ fn main(rt: HostRuntime) -> ExitCode {
 }
 
 // Runs the command that the program's words name, and answers the exit status. Texts go to `out`,
-// and what stops the program is told on `errors`, which may be a terminal.
+// and what stops the program is told on `errors`, which may be a terminal. It isn't a part of `main`, so that this needs little stack.
+#[inline(never)]
 fn status_of<R, O: Write, E: Write + Drop>(
     rt: &R,
     closed: Closed,
