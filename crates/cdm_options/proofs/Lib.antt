@@ -1,0 +1,4 @@
+mod ListLemmas
+mod EndLemmas
+mod LawLemmas
+pub mod OptionLemmas
