@@ -1,5 +1,5 @@
 -- Who reads the replies of a day, and keeps its Rows by them.
-use Rattle.std.specs.Prelude.{◌≡◌, ⊤, ⊥, ℕ, List, [], ◌∷◌, fold, Option, Result}
+use Rattle.std.specs.Prelude.{◌≡◌, ⊤, ℕ, List, [], ◌∷◌, fold, Option, Result}
 use Rattle.std.specs.Option.{option_or}
 use Rattle.cdm_flight.specs.declared.role.Role.{Role}
 use Rattle.cdm_flight.specs.declared.update.Update.{Update}
