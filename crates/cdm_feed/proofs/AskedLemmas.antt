@@ -1,10 +1,11 @@
 -- What is asked of the scenario that has a name is asked of what it makes of the day.
-use Rattle.std.{proofs.Common.{◌≡◌, ℕ, List, Option, None, Some, Result, Ok, Err, IfErr, IfOk, refl, sym, subst}, specs.Option.IsSomeAnd}
-use Rattle.cdm_flight.specs.declared.word.RefusalWord.{RefusalWord}
+use Rattle.std.{proofs.Common.{◌≡◌, ℕ, ◌||◌, ◌++◌, List, Option, None, Some, Result, Ok, Err, IfErr, IfOk, refl, sym, subst}, specs.Option.IsSomeAnd}
+use Rattle.std.proofs.lemmas.List.Folds.{list_any-append}
+use Rattle.cdm_flight.specs.declared.{update.Update.Update, word.RefusalWord.RefusalWord}
 use Rattle.cdm_plan.specs.Day.{DayRecord}
 use Rattle.cdm_view.specs.declared.fault.ViewFault.{ViewFault}
 use Rattle.cdm_view.specs.declared.fault.ViewFault.TheVariants as view
-use Rattle.cdm_shift.specs.{Answers.IsNotAnswered, declared.question.DayQuestion.DayQuestion}
+use Rattle.cdm_shift.specs.{Answers.IsNotAnswered, Warnings.{has_clock, is_clock}, declared.question.DayQuestion.DayQuestion}
 use Rattle.cdm_scenario.specs.{Outcome.IsLaid, Scenarios.{ScenarioRecord, scenario_named}}
 use Rattle.cdm_kinds.specs.declared.format.Format.{Format}
 use Rattle.cdm_files.specs.declared.common_fault.CommonFault.TheVariants as common
@@ -21,6 +22,10 @@ ok-then P Q (Err e) more is = is
 pub err-then : {T E : Type 0} (P Q : E → Type 0) (r : Result T E) → ((e : E) → P e → Q e) → IfErr r P → IfErr r Q
 err-then P Q (Ok x) more is = is
 err-then P Q (Err e) more is = more e is
+
+-- a CLOCK among updates and further ones
+pub clock_after : (journal updates : List Update) → has_clock (journal ++ updates) ≡ (has_clock journal || has_clock updates)
+clock_after journal updates = list_any-append is_clock journal updates
 
 -- why a day has no answer
 pub over_fault : (question : DayQuestion) (d : DayRecord) (name : List ℕ) (s : ScenarioRecord) (day : DayRecord) → IsLaid d s.updates (Ok day)

@@ -7,8 +7,10 @@ ghost use Rattle.cdm_files.specs.Input.{input_limit};
 ghost use Rattle.cdm_files.specs.RunFaults.{IsRecordFault};
 ghost use Rattle.cdm_files.specs.ScenarioFile.{scenarios_in};
 ghost use Rattle.cdm_picture.specs.Pictures.{IsPicture};
+ghost use Rattle.cdm_shift.specs.Warnings.{has_clock};
 ghost use Rattle.cdm_table.specs.Tables.{IsTable};
 ghost use Rattle.cdm_scenario.specs.Outcome.{IsLaid};
+ghost use Rattle.cdm_scenario.specs.Overlay.{with_updates};
 ghost use Rattle.cdm_scenario.specs.Scenarios.{ScenarioRecord};
 ghost use Rattle.cdm_feed.specs.Made.{IsAskedOf, IsKnown, IsMade, IsPlanIn, IsTraceSince, IsUnmade, IsUntold, IsView, table_error, view_error};
 ghost use Rattle.cdm_feed.specs.Output.{IsReport};
@@ -24,14 +26,14 @@ use cdm_day::{Airport, DayState, Records};
 use cdm_files::{
     AskedDay, CommonFault, Inputs, Lent, RunError, airport_of, asked_day, scenarios_of,
 };
-use cdm_flight::FlightName;
+use cdm_flight::{FlightName, Update};
 use cdm_kinds::Format;
 use cdm_phase::Gate;
 use cdm_picture::picture;
 use cdm_plan::Runner;
 use cdm_report::{indicators, made_lines, report_over};
 use cdm_scenario::{Overlay, Scenario, ScenarioName, scenario_named};
-use cdm_shift::{DayQuestion, day_answer};
+use cdm_shift::{Asking, day_answer, has_clock};
 use cdm_table::{Table, TableFault, plans_json, tabulate};
 use cdm_trace::{Since, Trace, from_minute, trace_of};
 use cdm_view::ViewFault;
@@ -151,25 +153,25 @@ fn picture_of<R: Threads + Sync, G: Gate>(
     )
 }
 
-// A question, and how its answer is written.
-#[derive(Clone, Copy)]
-struct Asking {
-    question: DayQuestion,
-    format: Format,
-}
-
 // The answer to a question of a day.
 fn answer_of_base(alloc: Global, asking: Asking, day: &AskedDay) -> Result<Vec<u8>, RunError>
     ensures made { IfOk result (λ text. IsView asking.format asking.question (IsAskedOf None day.now.state day.now.scenarios.items) text.items) }
     ensures fault { IfErr result (IsUntold (DayText.Answer asking.question None asking.format) day.now.state day.now.scenarios.items) }
 {
-    let Asking { question, format } = asking;
     let state = &day.state;
-    let plan = state.plan();
-    match day_answer(alloc, format, state.airport(), state, plan, question) {
+    let clocked = has_clock(state.journal());
+    match day_answer(alloc, asking, state.airport(), clocked, state, state.plan()) {
         Ok(text) => Ok(text),
         Err(fault) => Err(view_error(fault)),
     }
+}
+
+// Whether a CLOCK is among the accepted updates of a day with further ones.
+#[tactic(auto, using(crate::proofs::AskedLemmas::clock_after))]
+fn has_clock_after(base: &DayState, updates: &[Update]) -> bool
+    ensures { result ≡ has_clock (with_updates base.now updates.now).journal }
+{
+    has_clock(base.journal()) || has_clock(updates)
 }
 
 // The answer to a question of a day with all updates of the scenario that was asked for by this name.
@@ -183,11 +185,11 @@ fn answer_over(
     ensures made { IfOk result (λ text. IsView asking.format asking.question (IsLaid base.now scenario.now.updates) text.items) }
     ensures fault { IfErr result (IsUntoldOver asking.question base.now name scenario.now) }
 {
-    let Asking { question, format } = asking;
     match Overlay::after(alloc, base, scenario.updates())? {
         Ok(day) => {
             let plan = day.plan(alloc)?;
-            match day_answer(alloc, format, base.airport(), &day, &plan, question) {
+            let clocked = has_clock_after(base, scenario.updates());
+            match day_answer(alloc, asking, base.airport(), clocked, &day, &plan) {
                 Ok(text) => Ok(text),
                 Err(fault) => Err(view_error(fault)),
             }

@@ -4,6 +4,8 @@ use Rattle.std.specs.List.{filter_map, list_any}
 use Rattle.std.specs.Option.{option_and_then, option_map}
 use Rattle.cdm_time.specs.declared.tolerance.Tolerance.{Tolerance}
 use Rattle.cdm_flight.specs.Journal.{runway_row, values_of}
+use Rattle.cdm_flight.specs.declared.update.Update.{Update}
+use Rattle.cdm_flight.specs.declared.update.Update.TheVariants.{Clock}
 use Rattle.cdm_flight.specs.declared.values.DayValues.{DayValues}
 use Rattle.cdm_runway.specs.Room.{is_closed}
 use Rattle.cdm_runway.specs.Rules.{RunwayRules}
@@ -68,14 +70,22 @@ past d plan row status.Planned =
     option_and_then (λ tobt. option_and_then (λ tsat. past_at row tobt tsat (causes_named d plan row.flight)) row.tsat) row.tobt
 past d plan row _ = None
 
--- it is said to have left its stand, or to have taken off, more than 2 minutes after now; before the first CLOCK now isn't known
-abbrev pub ahead_at : ℕ → Row → ℕ → Option Warning
-ahead_at now row m = if nat_lt 0 now && nat_lt (now + 2) m then Some (Ahead row.flight m) else None
+abbrev pub is_clock : Update → Bool
+is_clock (Clock now) = true
+is_clock _ = false
 
-abbrev pub ahead : DayValues → Row → RowStatus → Option Warning
-ahead values row status.OffBlock = option_and_then (ahead_at values.clock row) row.tsat
-ahead values row status.Airborne = option_and_then (ahead_at values.clock row) row.ttot
-ahead values row _ = None
+-- a CLOCK is among these accepted updates: before the first, now isn't known
+abbrev pub has_clock : List Update → Bool
+has_clock journal = list_any is_clock journal
+
+-- a CLOCK was accepted, and the flight is said to have left its stand, or to have taken off, more than 2 minutes after now
+abbrev pub ahead_at : Bool → ℕ → Row → ℕ → Option Warning
+ahead_at clocked now row m = if clocked && nat_lt (now + 2) m then Some (Ahead row.flight m) else None
+
+abbrev pub ahead : Bool → DayValues → Row → RowStatus → Option Warning
+ahead clocked values row status.OffBlock = option_and_then (ahead_at clocked values.clock row) row.tsat
+ahead clocked values row status.Airborne = option_and_then (ahead_at clocked values.clock row) row.ttot
+ahead clocked values row _ = None
 
 -- a cell that has more flights than it may, and isn't over
 abbrev pub is_full : RunwayRules → List Slot → ℕ → ℕ → Bool
@@ -110,6 +120,6 @@ warnings d plan rows runways =
     ++ filter_map blocked rows
     ++ filter_map (λ row. edge values row row.status) rows
     ++ filter_map (λ row. past d plan row row.status) rows
-    ++ filter_map (λ row. ahead values row row.status) rows
+    ++ filter_map (λ row. ahead (has_clock d.journal) values row row.status) rows
     ++ flat_map (full_cells plan) runways
     ++ filter_map (λ row. shut d row row.status) rows

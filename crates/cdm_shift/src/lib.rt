@@ -18,6 +18,7 @@ mod warnings;
 pub use answering::day_answer;
 pub use costs::Costs;
 pub use laws::{a_slot_is_held_its_delay, columns_are_members, one_day_answer, the_causes_add_up};
-pub use question::{Ahead, DayQuestion, GroupBy, SheetQuestion, ShiftQuestion};
+pub use question::{Ahead, Asking, DayQuestion, GroupBy, SheetQuestion, ShiftQuestion};
 pub use start_ups::StartUp;
 pub use warning::Warning;
+pub use warnings::has_clock;

@@ -6,6 +6,7 @@ ghost use Rattle.cdm_row.specs.Columns.{if_any, minute as a_minute, number as a_
 ghost use Rattle.cdm_row.specs.Json.{member_tokens};
 ghost use Rattle.cdm_shift.specs.Costs.{costs_of};
 ghost use Rattle.cdm_shift.specs.Objects.{causes_lines, cause_value, cap_value, costs_members, ctot_value, flight_value, kind_word, member_of, next_lines, object_line, placed_value, rule_told, runway_value, start_up_members, time_value, ttot_value, warning_lines, warning_members};
+ghost use Rattle.cdm_shift.specs.Warnings.{has_clock};
 
 use crate::costs::{Costs, costs_of, on_stand, rows_in, told_groups};
 use crate::question::{Ahead, GroupBy};
@@ -258,15 +259,17 @@ pub(crate) fn warning_members(warning: &Warning) -> [Member<'_>; 9]
 pub(crate) fn warning_lines<R: Records>(
     alloc: Global,
     day: Day,
+    clocked: bool,
     records: &R,
     plan: &Plan,
     rows: &[Row],
 ) -> Result<Vec<u8>, AllocError>
-    requires { day ≡ (R.day records.now).airport.day }
+    requires day { day ≡ (R.day records.now).airport.day }
+    requires clock { clocked ≡ has_clock (R.day records.now).journal }
     ensures { IfOk result (λ text. (runways : List RunwayRules) → AreByName (R.day records.now) runways →
         text.items ≡ warning_lines (R.day records.now) plan.entry.now rows.now runways) }
 {
-    let found = warnings(alloc, records, plan, rows)?;
+    let found = warnings(alloc, clocked, records, plan, rows)?;
     objects_of(alloc, day, &found)
 }
 

@@ -2,6 +2,7 @@
 ghost use Rattle.std.specs.Prelude.{◌≡◌, ◌≤◌, ◌&&◌, nat_le, Some, None, if◌then◌else◌};
 
 use cdm_flight::RunwayName;
+use cdm_kinds::Format;
 use cdm_time::HORIZON_MINUTES;
 use cdm_view::Question;
 use std::marker::Model;
@@ -92,4 +93,11 @@ pub enum DayQuestion {
     Shift(ShiftQuestion),
     /// The same in rows of CSV, whatever the format.
     Sheet(SheetQuestion),
+}
+
+/// A question of a day, and how its answer is written.
+#[derive(Clone, Copy, PartialEq, Eq, Debug)]
+pub struct Asking {
+    pub question: DayQuestion,
+    pub format: Format,
 }

@@ -6,6 +6,7 @@ ghost use Rattle.cdm_plan.specs.DayPlan.{AreByName};
 ghost use Rattle.cdm_csv.specs.Rows.{csv_text};
 ghost use Rattle.cdm_row.specs.Columns.{value_of};
 ghost use Rattle.cdm_shift.specs.Sheets.{causes_sheet, costs_columns, fields_of, next_sheet, start_up_columns, start_up_fields, warning_columns, warning_fields, warnings_sheet};
+ghost use Rattle.cdm_shift.specs.Warnings.{has_clock};
 
 use crate::costs::{costs_of, on_stand, rows_in, told_groups};
 use crate::objects::{Member, costs_members, start_up_members, warning_members};
@@ -154,15 +155,17 @@ fn warning_rows(alloc: Global, day: Day, found: &[Warning]) -> Result<Vec<u8>, A
 pub(crate) fn warnings_sheet<R: Records>(
     alloc: Global,
     day: Day,
+    clocked: bool,
     records: &R,
     plan: &Plan,
     rows: &[Row],
 ) -> Result<Vec<u8>, AllocError>
-    requires { day ≡ (R.day records.now).airport.day }
+    requires day { day ≡ (R.day records.now).airport.day }
+    requires clock { clocked ≡ has_clock (R.day records.now).journal }
     ensures { IfOk result (λ text. (runways : List RunwayRules) → AreByName (R.day records.now) runways →
         text.items ≡ warnings_sheet (R.day records.now) plan.entry.now rows.now runways) }
 {
-    let found = warnings(alloc, records, plan, rows)?;
+    let found = warnings(alloc, clocked, records, plan, rows)?;
     warning_rows(alloc, day, &found)
 }
 

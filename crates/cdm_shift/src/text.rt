@@ -7,6 +7,7 @@ ghost use Rattle.cdm_runway.specs.Rules.{RunwayRules};
 ghost use Rattle.cdm_plan.specs.DayPlan.{AreByName};
 ghost use Rattle.cdm_view.specs.Why.{name_or_dash};
 ghost use Rattle.cdm_shift.specs.Lines.{at, causes_text, cause_or_dash, cause_word, costs_line, count_line, number_in, place_told, times_told, group_line, next_text, start_up_line, warning_line, warnings_text};
+ghost use Rattle.cdm_shift.specs.Warnings.{has_clock};
 
 use crate::costs::{Costs, Group, costs_of, on_stand, rows_in, told_groups};
 use crate::question::{Ahead, GroupBy};
@@ -211,15 +212,17 @@ fn push_warning_count(text: &mut String, count: usize) -> Result<(), AllocError>
 pub(crate) fn warnings_text<R: Records>(
     alloc: Global,
     day: Day,
+    clocked: bool,
     records: &R,
     plan: &Plan,
     rows: &[Row],
 ) -> Result<Vec<u8>, AllocError>
-    requires { day ≡ (R.day records.now).airport.day }
+    requires day { day ≡ (R.day records.now).airport.day }
+    requires clock { clocked ≡ has_clock (R.day records.now).journal }
     ensures { IfOk result (λ text. (runways : List RunwayRules) → AreByName (R.day records.now) runways →
         text.items ≡ warnings_text (R.day records.now) plan.entry.now rows.now runways) }
 {
-    let found = warnings(alloc, records, plan, rows)?;
+    let found = warnings(alloc, clocked, records, plan, rows)?;
     let mut text = String::new(alloc);
     push_day(&mut text, day, plan.clock)?;
     push_warnings(&mut text, day, &found)?;

@@ -6,12 +6,12 @@ ghost use Rattle.cdm_runway.specs.Rules.{RunwayRules};
 ghost use Rattle.cdm_plan.specs.DayPlan.{AreByName};
 ghost use Rattle.cdm_view.specs.Causes.{same_cause};
 ghost use Rattle.cdm_view.specs.Load.{cells_of};
-ghost use Rattle.cdm_shift.specs.Warnings.{ahead, blocked, edge, full_cell, full_cells, is_full, missed, overdue, past, shut, warnings, window_end};
+ghost use Rattle.cdm_shift.specs.Warnings.{ahead, blocked, edge, full_cell, full_cells, has_clock, is_clock, is_full, missed, overdue, past, shut, warnings, window_end};
 
 use crate::held::causes_named;
 use crate::warning::Warning;
 use cdm_day::runway_named;
-use cdm_flight::{DayValues, push_last};
+use cdm_flight::{DayValues, Update, push_last};
 use cdm_plan::Records;
 use cdm_row::{Row, RowStatus};
 use cdm_runway::Runway;
@@ -107,9 +107,26 @@ fn past<R: Records>(
     }
 }
 
-// The flight is said to have done more than 2 minutes after now what it did.
-fn ahead(values: DayValues, row: &Row) -> Option<Warning>
-    ensures { result ≡ ahead values row.now row.now.status }
+// Whether the update is a CLOCK.
+fn is_clock(update: &Update) -> bool
+    ensures { result ≡ is_clock update.now }
+{
+    match update {
+        Update::Clock { .. } => true,
+        _ => false,
+    }
+}
+
+/// Whether a CLOCK is among the accepted updates of a day, so that its current time is known.
+pub fn has_clock(journal: &[Update]) -> bool
+    ensures { result ≡ has_clock journal.now }
+{
+    journal.iter().any(is_clock)
+}
+
+// The flight is said to have done more than 2 minutes after now what it did, where now is known.
+fn ahead(clocked: bool, values: DayValues, row: &Row) -> Option<Warning>
+    ensures { result ≡ ahead clocked values row.now row.now.status }
 {
     let now = values.clock.get();
     let minute = match row.status {
@@ -117,7 +134,7 @@ fn ahead(values: DayValues, row: &Row) -> Option<Warning>
         RowStatus::Airborne => row.ttot?,
         _ => return None,
     };
-    if 0 < now && now + 2 < minute.get() {
+    if clocked && now + 2 < minute.get() {
         Some(Warning::Ahead(row.flight, minute))
     } else {
         None
@@ -280,11 +297,16 @@ fn all_edge(alloc: Global, values: DayValues, rows: &[Row]) -> Result<Vec<Warnin
 }
 
 // The flights that are ahead of the clock.
-fn all_ahead(alloc: Global, values: DayValues, rows: &[Row]) -> Result<Vec<Warning>, AllocError>
-    ensures { IfOk result (λ found. found.items ≡ filter_map (λ row. ahead values row row.status) rows.now) }
+fn all_ahead(
+    alloc: Global,
+    clocked: bool,
+    values: DayValues,
+    rows: &[Row],
+) -> Result<Vec<Warning>, AllocError>
+    ensures { IfOk result (λ found. found.items ≡ filter_map (λ row. ahead clocked values row row.status) rows.now) }
 {
     rows.iter()
-        .filter_map(|row| ahead(values, row))
+        .filter_map(|row| ahead(clocked, values, row))
         .collect(alloc)
 }
 
@@ -304,10 +326,12 @@ fn all_shut<R: Records>(
 /// All warnings of a day with its plan, kind by kind: those of flights by name, those of cells by runway and minute.
 pub(crate) fn warnings<R: Records>(
     alloc: Global,
+    clocked: bool,
     records: &R,
     plan: &Plan,
     rows: &[Row],
 ) -> Result<Vec<Warning>, AllocError>
+    requires { clocked ≡ has_clock (R.day records.now).journal }
     ensures { IfOk result (λ found. (runways : List RunwayRules) → AreByName (R.day records.now) runways →
         found.items ≡ warnings (R.day records.now) plan.entry.now rows.now runways) }
 {
@@ -317,7 +341,7 @@ pub(crate) fn warnings<R: Records>(
     found.extend_from_slice(&all_blocked(alloc, rows)?)?;
     found.extend_from_slice(&all_edge(alloc, values, rows)?)?;
     push_past(&mut found, alloc, records, plan, rows)?;
-    found.extend_from_slice(&all_ahead(alloc, values, rows)?)?;
+    found.extend_from_slice(&all_ahead(alloc, clocked, values, rows)?)?;
     push_all_full(&mut found, records, plan)?;
     found.extend_from_slice(&all_shut(alloc, records, rows)?)?;
     Ok(found)
