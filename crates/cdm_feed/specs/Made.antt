@@ -1,5 +1,5 @@
 -- What runs make of an airport file, a feed and a third file, which has scenarios or is the next airport file, and why they make nothing.
-use Rattle.std.specs.Prelude.{◌≡◌, ⊤, ℕ, List, Option, None, Some, IsSome, IsErr, Result, Ok, Err}
+use Rattle.std.specs.Prelude.{◌≡◌, ⊤, ℕ, List, Option, None, Some, IsSome, IsErr, IsOk, Result, Ok, Err}
 use Rattle.std.specs.Option.{IsSomeAnd}
 use Rattle.std.specs.Result.{IsOkAnd}
 use Rattle.cdm_flight.specs.Journal.{AirportRows, flight_of}
@@ -116,14 +116,15 @@ view_error (view.NoRunway name) = error.NoRunway name
 view_error view.Memory = error.Common common.Memory
 
 -- why this isn't told of a day and scenarios: what is asked for isn't known, an update of the scenario is refused, or there
--- is no memory
+-- is no memory. A trace is asked for its time before its flight.
 abbrev pub IsUntold : DayText → DayRecord → List ScenarioRecord → RunError → Type 0
 IsUntold asked d questions (error.Common common.Memory) = ⊤
 IsUntold (Answer question scenario format) d questions (error.NoFlight name) = HasNoView question (IsAskedOf scenario d questions) (view.NoFlight name)
 IsUntold (Answer question scenario format) d questions (error.NoRunway name) = HasNoView question (IsAskedOf scenario d questions) (view.NoRunway name)
 IsUntold (Answer question scenario format) d questions (error.NoScenario name) = (scenario ≡ Some name) × (scenario_named questions name ≡ None)
 IsUntold (Answer question scenario format) d questions (error.Update name number word) = (scenario ≡ Some name) × IsAskedOf scenario d questions (Err (number, word))
-IsUntold (Trace flight since format) d questions (error.NoFlight name) = (flight ≡ Some name) × (flight_of d.airport d.journal name ≡ None)
+IsUntold (Trace flight since format) d questions (error.NoFlight name) =
+    IsOk (from_minute d.airport.day since) × (flight ≡ Some name) × (flight_of d.airport d.journal name ≡ None)
 IsUntold (Trace flight since format) d questions error.OtherDay = IsErr (from_minute d.airport.day since)
 IsUntold (Table table) d questions (error.NoScenario name) = unknown_among questions table ≡ Some name
 IsUntold asked d questions fault = ⊥
