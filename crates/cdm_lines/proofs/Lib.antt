@@ -8,3 +8,4 @@ mod KindLemmas
 mod CheckLemmas
 mod TraceLemmas
 mod ReplyLemmas
+mod ReaderLemmas

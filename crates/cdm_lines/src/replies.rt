@@ -1,16 +1,22 @@
 //! Laws of a served day.
-ghost use Rattle.std.specs.Prelude.{◌∷◌, [], ℕ, Bool, List, codes};
+ghost use Rattle.std.specs.Prelude.{◌∷◌, [], ℕ, Bool, List, Result, codes};
 ghost use Rattle.std.specs.List.{AllByRecursion};
+ghost use Rattle.cdm_desk.specs.declared.reply.RowReply.{RowReply as AReply};
 ghost use Rattle.cdm_flight.specs.Journal.{AirportRows};
+ghost use Rattle.cdm_flight.specs.declared.role.Role.{Role as ARole};
+ghost use Rattle.cdm_flight.specs.declared.update.Update.{Update as AnUpdate};
+ghost use Rattle.cdm_flight.specs.declared.word.RefusalWord.{RefusalWord as AWord};
 ghost use Rattle.cdm_journal.specs.Lines.{LineRecord};
 ghost use Rattle.cdm_kinds.specs.declared.format.Format.TheVariants as format;
 ghost use Rattle.cdm_plan.specs.Airport.{IsAirport};
 ghost use Rattle.cdm_plan.specs.Day.{DayRecord};
+ghost use Rattle.cdm_plan.specs.Sound.{IsSound};
 ghost use Rattle.cdm_port.specs.Event.{Event};
 ghost use Rattle.cdm_row.specs.Json.{count_json, object_of};
 ghost use Rattle.cdm_serve.specs.Requests.{request_of};
 ghost use Rattle.cdm_serve.specs.Served.{IsHeard, IsReplyTo, IsServed, IsStopped, answered};
 ghost use Rattle.cdm_lines.specs.Lines.{FitsLine};
+ghost use Rattle.cdm_lines.specs.Readers.{AreRowReplies, HasRows, Reader, day_after_all, with_replies};
 ghost use Rattle.cdm_lines.specs.Replies.{AreReplyLines, RepliesLine};
 
 /// How many updates the day has at the start.
@@ -34,4 +40,11 @@ pub fn served_replies_are_lines()
 pub fn stopped_replies_are_lines()
     ensures { (g : AirportRows) (marked : Bool) (done : List Event) → IsAirport g → IsStopped format.Json g marked done →
         AreReplyLines done }
+{}
+
+/// Who has the Rows of a day, and puts the Rows of each reply in the place of his own, has the Rows of the day after any number
+/// of records, also refused ones.
+pub fn readers_keep_up()
+    ensures { (d : DayRecord) (records : List (Result (ARole × AnUpdate) AWord)) (replies : List AReply) (has : Reader) →
+        IsSound d → HasRows d has → AreRowReplies d records replies → HasRows (day_after_all d records) (with_replies has replies) }
 {}
