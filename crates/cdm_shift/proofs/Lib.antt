@@ -4,3 +4,6 @@ pub mod OneAnswer
 pub mod SheetLemmas
 pub mod HeldLemmas
 pub mod CostLemmas
+pub mod Rising
+pub mod GroupLemmas
+pub mod StartLemmas

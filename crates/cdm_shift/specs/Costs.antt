@@ -1,6 +1,6 @@
 -- Where the minutes of delay come from.
-use Rattle.std.specs.Prelude.{ℕ, Bool, true, false, not, ◌&&◌, ◌||◌, nat_le, nat_lt, if◌then◌else◌, List, [], count_by, filter, flat_map, fold, insert, length, map, slice_index, take, Option, None, Some}
-use Rattle.std.specs.List.{list_any, prefix_len}
+use Rattle.std.specs.Prelude.{◌≡◌, ◌↔◌, ℕ, Bool, Contains, true, false, not, ◌&&◌, ◌||◌, nat_le, nat_lt, if◌then◌else◌, List, [], count_by, filter, flat_map, fold, insert, length, map, slice_index, take, Option, None, Some}
+use Rattle.std.specs.List.{AllPairs, list_any, prefix_len}
 use Rattle.cdm_flight.specs.Names.{is_name, name_cmp, same_name}
 use Rattle.std.specs.declared.cmp.Ordering.{Ordering}
 use Rattle.std.specs.declared.cmp.Ordering.TheVariants.{Less}
@@ -71,6 +71,11 @@ with_group groups g =
 -- the groups of Rows, each once and in their order
 abbrev pub groups_of : GroupBy → List Row → List (Option (List ℕ))
 groups_of by rows = fold with_group [] (map (group_of by) rows)
+
+-- the groups of Rows in the words of the field: in their order, each once, and exactly those that a Row has
+pub record AreGroups (by : GroupBy) (rows : List Row) (groups : List (Option (List ℕ))) : Type 0 where
+  pub in_order : AllPairs (λ g h. group_before g h ≡ true) groups
+  pub those : (g : Option (List ℕ)) → Contains groups g ↔ Contains (map (group_of by) rows) g
 
 -- Costs.
 
