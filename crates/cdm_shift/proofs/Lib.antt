@@ -7,3 +7,4 @@ pub mod CostLemmas
 pub mod Rising
 pub mod GroupLemmas
 pub mod StartLemmas
+pub mod TotalLemmas

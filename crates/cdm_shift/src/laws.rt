@@ -10,13 +10,15 @@ ghost use Rattle.cdm_sequence.specs.declared.slot.Slot.{Slot};
 ghost use Rattle.cdm_plan.specs.Airport.{IsAirport};
 ghost use Rattle.cdm_plan.specs.Day.{DayRecord, flights_in};
 ghost use Rattle.cdm_plan.specs.DayPlan.{IsDayPlan};
+ghost use Rattle.cdm_plan.specs.Sound.{IsSound};
+ghost use Rattle.cdm_report.specs.Counts.{counts_of};
 ghost use Rattle.cdm_row.specs.Rows.{AreRows};
 ghost use Rattle.cdm_row.specs.declared.row.Row.{Row as ARow};
 ghost use Rattle.cdm_view.specs.Reasons.{Waiting};
 ghost use Rattle.cdm_view.specs.Waits.{Waits};
 ghost use Rattle.cdm_view.specs.Why.{own_slot};
 ghost use Rattle.cdm_shift.specs.Answers.{IsDayAnswer};
-ghost use Rattle.cdm_shift.specs.Costs.{AreGroups, costs_of, groups_of};
+ghost use Rattle.cdm_shift.specs.Costs.{AreGroups, costs_of, groups_of, on_stand};
 ghost use Rattle.cdm_shift.specs.Held.{causes_of};
 ghost use Rattle.cdm_shift.specs.Objects.{costs_members, start_up_members, warning_members};
 ghost use Rattle.cdm_shift.specs.Sheets.{costs_columns, start_up_columns, warning_columns};
@@ -56,6 +58,14 @@ pub fn the_causes_add_up()
     ensures { (d : DayRecord) (plan : Plan) (rows : List ARow) → let c = costs_of d plan rows in
         c.ice + c.ctot + c.closure + c.spacing + c.rate + c.clock ≡ c.delay }
 {}
+
+/// The delay of all flights on their stands, which `causes` tells as TOTAL, is that of the report.
+pub fn the_total_is_the_reports()
+    ensures { (d : DayRecord) (plan : Plan) (rows : List ARow) → IsSound d → IsDayPlan d plan → AreRows d plan rows →
+        (costs_of d plan (on_stand rows)).delay ≡ (counts_of plan).delay }
+{
+    a_slot_is_held_its_delay();
+}
 
 /// The groups of Rows are in their order, each once, and exactly those that a Row has. No other list is so.
 pub fn groups_are_those_of_rows()

@@ -19,7 +19,7 @@ pub use answering::day_answer;
 pub use costs::Costs;
 pub use laws::{
     a_slot_is_held_its_delay, columns_are_members, groups_are_those_of_rows, one_day_answer,
-    start_ups_are_those_ahead, the_causes_add_up,
+    start_ups_are_those_ahead, the_causes_add_up, the_total_is_the_reports,
 };
 pub use question::{Ahead, Asking, DayQuestion, GroupBy, SheetQuestion, ShiftQuestion};
 pub use start_ups::StartUp;
