@@ -44,7 +44,6 @@ pub fn stopped_replies_are_lines()
 
 /// Who has the Rows of a day, and puts the Rows of each reply in the place of his own, has the Rows of the day after any number
 /// of records, also refused ones.
-#[tactic(auto, using(crate::proofs::ReaderLemmas::keeps_up))]
 pub fn readers_keep_up()
     ensures { (d : DayRecord) (records : List (Result (ARole × AnUpdate) AWord)) (replies : List AReply) (has : Reader) →
         IsSound d → HasRows d has → AreRowReplies d records replies → HasRows (day_after_all d records) (with_replies has replies) }

@@ -57,7 +57,7 @@ module _ {X : Type 0} (before : X → X → Bool) where
   -- it has what was there, and the element
   put_from : (xs : List X) (g y : X) → Contains (put before xs g) y → Contains xs y ⊎ (g ≡ y)
   put_from [] g y i = elim (contains_cases g [] y i) [ inl e ↦ inr e | inr j ↦ inl j ]
-  put_from (x ∷ xs) g y = by (put_from xs g y) (before x g)
+  put_from (x ∷ xs) g y i = by (put_from xs g y) (before x g) i
     where
       by : (Contains (put before xs g) y → Contains xs y ⊎ (g ≡ y)) → (b : Bool) → Contains (cond b (x ∷ put before xs g) (g ∷ x ∷ xs)) y
           → Contains (x ∷ xs) y ⊎ (g ≡ y)

@@ -150,7 +150,7 @@ pub starting_is : (d : DayRecord) (plan : Plan) (rows : List Row) (end : ℕ) �
     → AreStarting rows end (starting rows end)
 unfolding starting
 starting_is d plan rows end own are =
-    record { those = those rows end; in_order = λ k d from within. all_in_order rows (keeps d plan rows own are).by_name end k (k + 1) d (omega arith) within }
+    record { those = those rows end; in_order = λ k row from within. all_in_order rows (keeps d plan rows own are).by_name end k (k + 1) row (omega arith) within }
 
 start_total : IsTotalOrder start_cmp
 start_total = then_total (on_total (λ (r : Row). unwrap_or r.tsat 0) nat_cmp_total) (on_total (λ (r : Row). r.flight) nat_list_cmp_total)

@@ -68,7 +68,6 @@ pub fn the_total_is_the_reports()
 }
 
 /// The groups of Rows are in their order, each once, and exactly those that a Row has. No other list is so.
-#[tactic(auto, using(crate::proofs::GroupLemmas::groups_are, crate::proofs::GroupLemmas::groups_one))]
 pub fn groups_are_those_of_rows()
     ensures are { (by : Grouping) (rows : List ARow) → AreGroups by rows (groups_of by rows) }
     ensures only { (by : Grouping) (rows : List ARow) (xs ys : List (Option (List ℕ))) → AreGroups by rows xs → AreGroups by rows ys → xs ≡ ys }
@@ -76,7 +75,6 @@ pub fn groups_are_those_of_rows()
 
 /// Of the Rows of a day, the start-ups before a minute are those of exactly the flights that start up before it, by TSAT and then by
 /// name. No other list is so.
-#[tactic(auto, using(crate::proofs::StartLemmas::starting_is, crate::proofs::StartLemmas::starting_one))]
 pub fn start_ups_are_those_ahead()
     ensures are { (d : DayRecord) (plan : Plan) (rows : List ARow) (minute : ℕ) → IsDistinct same_name (flights_in d.journal) →
         AreRows d plan rows → AreStarting rows minute (starting rows minute) }
