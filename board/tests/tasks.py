@@ -240,14 +240,15 @@ def better_before(hand: Hand) -> None:
 
 def find(hand: Hand) -> None:
     hand.key("/")
-    hand.key("SWR")
-    hand.press("#next tr[data-flight=SWR22] .c-ttot")
+    hand.shown.until("return document.activeElement.name === 'flight'")
+    hand.key("KLM")
+    hand.press("#next tr[data-flight=KLM645] .c-ttot")
     hand.sees("#why-note", "min, take-off")
 
 
 def find_before(hand: Hand) -> None:
-    hand.type("#filter [name=flight]", "SWR")
-    hand.press("#next tr[data-flight=SWR22] th a")
+    hand.type("#filter [name=flight]", "KLM")
+    hand.press("#next tr[data-flight=KLM645] th a")
     hand.sees("#why-note", "min, take-off")
 
 
@@ -427,7 +428,7 @@ def main() -> None:
             continue
         said = []
         for way, checkout in ((task.before, words.before), (task.now, None)):
-            if not way or way is task.before and not checkout:
+            if not way or not said and not checkout:
                 said.append("-")
                 continue
             with tempfile.TemporaryDirectory() as folder:
