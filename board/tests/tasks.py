@@ -383,6 +383,7 @@ def opened(driver: Any, server: Any, task: Task) -> Hand:
         shown.open()
         shown.choose("#role", {SUPERVISOR: "ATC", OPERATOR: "AO", PLANNER: "ATC"}[task.who])
         shown.until("return document.querySelector('#b-send').hidden === false")
+        shown.js("document.activeElement.blur()")  # the role was chosen long ago
     return Hand(shown)
 
 
