@@ -4,6 +4,7 @@ import pytest
 from browser import size
 from test_page_act import lines, what_if
 from test_page_eye import BROKEN, CLIPPED, SPACED
+from test_page_look import TOKENS
 from test_page_rules import RULES, TARGETS
 
 
@@ -132,7 +133,7 @@ def test_scenarios_keep_the_rules(page, width):
         assert shown.js(rule) == []
     shown.js(SPACED)
     shown.until("return document.documentElement.classList.contains('l-spaced')")
-    assert shown.js(CLIPPED) == [] and shown.js(BROKEN) == []
+    assert shown.js(CLIPPED) == [] and shown.js(BROKEN) == [] and shown.js(TOKENS) == []
     shown.js("location.hash = ''")
     shown.until("return document.querySelector('.wi') === null")
     assert shown.js("return [...document.querySelector('#left').children].map((one) => one.id)")[0] == "runways"
