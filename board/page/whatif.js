@@ -252,10 +252,25 @@ export class WhatIf {
     if (document.activeElement !== this.base) this.toAnswer();
     if (areWrong.length) await this.refused(body, number);
     if (number !== this.asked) return;
-    this.causes.root.hidden = areWrong.includes(name);
-    if (!areWrong.includes(name)) return this.draw(plans, name, base, body, number);
-    this.sends.hidden = true;
-    this.beside([{ name: '', runways: [] }]);
+    const isWrong = areWrong.includes(name);
+    this.causes.root.hidden = isWrong;
+    say($('#wi-note'), '');
+    if (isWrong) this.sends.hidden = true;
+    if (isWrong) this.beside([{ name: '', runways: [] }]);
+    else await this.drawn(plans, name, base, body, number);
+  }
+
+  /** The rows and the causes come behind the comparison, which stays where the day has moved on meanwhile so that they have no answer. */
+  async drawn(plans, name, base, body, number) {
+    try {
+      await this.draw(plans, name, base, body, number);
+    } catch (problem) {
+      if (!(problem instanceof Problem)) throw problem;
+      if (number !== this.asked) return;
+      this.causes.root.hidden = true;
+      this.beside([{ name: '', runways: [] }]);
+      say($('#wi-note'), `The runways’ rows and the causes have no answer: ${problem.message}. Compare again.`);
+    }
   }
 
   /** What was asked for is in sight, below the panel's head; the page behind stays where it is. */

@@ -240,14 +240,15 @@ def better_before(hand: Hand) -> None:
 
 def find(hand: Hand) -> None:
     hand.key("/")
-    hand.key("SWR")
-    hand.press("#next tr[data-flight=SWR22] .c-ttot")
+    hand.shown.until("return document.activeElement.name === 'flight'")
+    hand.key("KLM")
+    hand.press("#next tr[data-flight=KLM645] .c-ttot")
     hand.sees("#why-note", "min, take-off")
 
 
 def find_before(hand: Hand) -> None:
-    hand.type("#filter [name=flight]", "SWR")
-    hand.press("#next tr[data-flight=SWR22] th a")
+    hand.type("#filter [name=flight]", "KLM")
+    hand.press("#next tr[data-flight=KLM645] th a")
     hand.sees("#why-note", "min, take-off")
 
 
@@ -350,8 +351,8 @@ TASKS = [
     Task(SUPERVISOR, "close a runway for half an hour, its effect known before", 2, close, close_before),
     Task(SUPERVISOR, "take that back, its effect known before", 1, reopen, reopen_before, close),
     Task(SUPERVISOR, "send a flight to the other runway, its effect known before", 6, of_flight("DLH77", "RWY", "runway", "18"), of_flight_before("DLH77", "RWY", "runway", "18")),
-    Task(SUPERVISOR, "put a flight ahead, its effect known before", 8, of_flight("DLH77", "PRIO", "priority", "1"), of_flight_before("DLH77", "PRIO", "priority", "1")),
-    Task(SUPERVISOR, "compare two scenarios, and send the two records of one", 90, better, better_before),
+    Task(SUPERVISOR, "put a flight ahead, its effect known before", 7, of_flight("DLH77", "PRIO", "priority", "1"), of_flight_before("DLH77", "PRIO", "priority", "1")),
+    Task(SUPERVISOR, "compare two scenarios, and send the two records of one", 76, better, better_before),
     Task(SUPERVISOR, "find a flight, and why it waits", 5, find, find_before),
     Task(HANDLER, "the start-up of one's own flights", 0, own, own_before),
     Task(HANDLER, "a TOBT ten minutes later, its effect known before", 2, later, tobt_before("0655")),
@@ -359,8 +360,8 @@ TASKS = [
     Task(HANDLER, "learn that a start-up has moved, without looking at the page", 0, notice, None, other_moves),
     Task(OPERATOR, "totals, delay and warnings of two operators", 8, of_operators),
     Task(OPERATOR, "a file of the flights, the greatest delay first", 3, delays),
-    Task(OPERATOR, "a link to a flight", 2, link),
-    Task(PLANNER, "three closures on one axis of time, and the causes of each", 110, three),
+    Task(OPERATOR, "copy a link to a flight in the page", 2, link),
+    Task(PLANNER, "three closures on one axis of time, and the causes of each", 102, three),
     Task(PLANNER, "the difference between two of them", 2, any_two, None, three),
     Task(PLANNER, "the scenarios again after a reload", 1, kept, None, three),
 ]
@@ -382,6 +383,7 @@ def opened(driver: Any, server: Any, task: Task) -> Hand:
         shown.open()
         shown.choose("#role", {SUPERVISOR: "ATC", OPERATOR: "AO", PLANNER: "ATC"}[task.who])
         shown.until("return document.querySelector('#b-send').hidden === false")
+        shown.js("document.activeElement.blur()")  # the role was chosen long ago
     return Hand(shown)
 
 
@@ -427,7 +429,7 @@ def main() -> None:
             continue
         said = []
         for way, checkout in ((task.before, words.before), (task.now, None)):
-            if not way or way is task.before and not checkout:
+            if not way or not said and not checkout:
                 said.append("-")
                 continue
             with tempfile.TemporaryDirectory() as folder:

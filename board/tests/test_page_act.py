@@ -403,6 +403,7 @@ def test_records_of_a_scenario_are_tried_first(page):
     shown.choose("#role", "ATC")
     shown.until("return document.querySelector('#b-send').hidden === false")
     what_if(shown, SWAP)
+    shown.says("#wi-note", "In the runways’ bands")
     shown.server.post("CNL,RYR6", Cdm_Role="AO")
     before = lines(shown)
     shown.click("#wi-send")

@@ -4,6 +4,7 @@ import pytest
 from browser import size
 from test_page_act import lines, what_if
 from test_page_eye import BROKEN, CLIPPED, SPACED
+from test_page_look import TOKENS
 from test_page_rules import RULES, TARGETS
 
 
@@ -22,7 +23,8 @@ def three(shown, chosen="C"):
     what_if(shown, THREE)
     shown.js("[...document.querySelectorAll('#wi-table button')].find((one) => one.textContent === arguments[0]).click()", chosen)
     shown.until("return document.querySelector('#wi-table .chosen th').textContent === arguments[0]", chosen)
-    shown.until("return document.querySelectorAll('#wi-causes tbody tr').length === 5")
+    shown.until("return document.querySelector('#wi-causes .chosen th')?.textContent === arguments[0]", chosen)
+    shown.until("return document.querySelector('.band .chosen b')?.textContent === arguments[0]", chosen)
 
 
 OFFERED = "return [...document.querySelectorAll('#wi-answer option')].map((one) => one.textContent)"
@@ -86,6 +88,27 @@ def test_one_that_is_refused_has_no_rows(page):
     assert [name for name, _ in shown.js(AXIS, "09")] == ["day", "A", "B"] and shown.js(OFFERED) == ["the day", "B"]
 
 
+MEANWHILE = """const real = window.fetch;
+window.fetch = async (path, ...words) => {
+  if (String(path).startsWith('/v1/load.json?scenario=')) await new Promise((go) => { window.go = go; });
+  return real(path, ...words);
+};"""
+
+
+def test_a_comparison_stays_as_the_day_moves_on(page):
+    """RYR6 is cancelled after the comparison came, and before its rows: those have no answer then. Nothing of the comparison goes."""
+    shown = page().open()
+    shown.allowed.append("422 (Unprocessable Entity)")
+    shown.js(MEANWHILE)
+    what_if(shown, "SCENARIO,A\nRWY,RYR6,27L")
+    shown.until("return window.go !== undefined")
+    shown.server.post("CNL,RYR6", Cdm_Role="AO")
+    shown.js("window.go()")
+    shown.says("#wi-note", "have no answer: ")
+    assert shown.texts("#wi-flights th") == ["RYR6"] and not shown.find("#wi-fault").is_displayed()
+    assert shown.js("return document.activeElement.id") == "wi-head"
+
+
 def test_of_many_scenarios_four_are_beside_each_other(page):
     """Among them the one that is chosen."""
     shown = page().open()
@@ -110,7 +133,7 @@ def test_scenarios_keep_the_rules(page, width):
         assert shown.js(rule) == []
     shown.js(SPACED)
     shown.until("return document.documentElement.classList.contains('l-spaced')")
-    assert shown.js(CLIPPED) == [] and shown.js(BROKEN) == []
+    assert shown.js(CLIPPED) == [] and shown.js(BROKEN) == [] and shown.js(TOKENS) == []
     shown.js("location.hash = ''")
     shown.until("return document.querySelector('.wi') === null")
     assert shown.js("return [...document.querySelector('#left').children].map((one) => one.id)")[0] == "runways"

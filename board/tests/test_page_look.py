@@ -237,10 +237,12 @@ def test_no_time_runway_or_name_stands_in_two_lines(page, width):
     shown.says("#pills", "27L shut to 06:00, again 06:10")
     for how in ("", SPACED):
         shown.js(how)
-        for path in ("", "#RYR6", "#EZY7"):
+        for path in ("", "#RYR6", "#EZY7", "#act", "#keys"):
             shown.js("location.hash = arguments[0]", path)
             shown.until("return [...document.querySelectorAll('.panel')].filter((p) => !p.hidden).length === (arguments[0] ? 1 : 0)", path)
-            if path:
+            if path == "#act":
+                shown.says("#act", "The first free take-off is 07:15")
+            elif path and path != "#keys":
                 shown.until("return document.querySelectorAll('#waits li').length > 0 && document.querySelector('#h-f span').textContent === arguments[0].slice(1)", path)
             assert shown.js(TOKENS) == [], (path, how != "")
             assert shown.js("return document.documentElement.scrollWidth") <= width

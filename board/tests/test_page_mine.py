@@ -6,6 +6,7 @@ from browser import size
 from selenium_or_none import Keys
 from test_page_desks import DENIED, sign_in
 from test_page_eye import BROKEN, CLIPPED, SPACED
+from test_page_look import TOKENS
 from test_page_rules import TARGETS
 
 OWN = {"atc": 'role = "ATC"\nclock = true', "ap": 'role = "AP"', "ao": 'role = "AO"', "nm": 'role = "NM"', "ground": 'role = "GH"\nflights = ["DLH", "EZY"]'}
@@ -93,7 +94,7 @@ def test_a_card_says_the_effect_of_its_tobt(page):
     shown.click(f"{card} form button:not([type])")
     shown.says(f"{card} .reply", "Accepted. Start-up 06:20.")
     shown.says(f"{card} .undo", "Take back: TOBT DLH1 06:00 Its effect: start-up 06:00 (now 06:20), moves 1 other flight; +5 min of delay in all.")
-    for rule in (TARGETS, CLIPPED, BROKEN):
+    for rule in (TARGETS, CLIPPED, BROKEN, TOKENS):
         assert shown.js(rule) == []
     shown.click(f"{card} .back")
     shown.says(f"{card} .reply", "Taken back. Start-up 06:00.")
