@@ -86,16 +86,15 @@ class Board:
                 request.protocol.show()
         self._unsent.check_own(self.callers.asker(request))
         refuse(not POSITION.fullmatch(after), 400, "Cdm-After is a position")
-        is_of_day = request.path.startswith("/v1/") and request.path != "/v1/session"
-        if is_of_day and (request.path != "/v1/records" or request.method in ("GET", "HEAD")):
-            await self._reached(request[DESK].name, int(after))
+        if request.path not in ("/v1/records", "/v1/session") or request.method in ("GET", "HEAD"):
+            await self._reached(request.get(DESK, READER).name, int(after))
         return await handler(request)
 
     async def _reached(self, desk: str, position: int) -> None:
         """Waits until a position is here. Raises Problem if it isn't in time, or too many wait."""
         if position <= self.day.position:
             return
-        refuse(self._waiting[desk] >= MOST_AFTER, 429, "too many requests wait for a position", Retry_After="1")
+        refuse(self._waiting[desk] >= MOST_AFTER, 503, "too many requests wait for a position", Retry_After="1")
         self._waiting[desk] += 1
         try:
             with contextlib.suppress(TimeoutError, Problem):
