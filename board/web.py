@@ -45,6 +45,12 @@ PARTS = ("text/javascript", "text/css")
 Handler = Callable[[web.Request], Awaitable[web.StreamResponse]]
 
 
+async def named(_: web.Request, response: web.StreamResponse) -> None:
+    """Events, and what the library itself answers, say neither its version nor Python's."""
+    response.headers["Server"] = SAFE["Server"]
+    response.headers.setdefault("X-Content-Type-Options", SAFE["X-Content-Type-Options"])
+
+
 class Board:
     """What the requests of one board share."""
 
@@ -235,5 +241,6 @@ class Board:
             web.get("/v1/who", self.who), web.get("/v1/events", self.get_events, allow_head=False),
             web.get("/health", self.health.health), web.get("/ready", self.health.ready), web.get("/metrics", self.health.metrics),
             web.get("/", self.page), web.get(r"/page-{digest:[0-9a-f]+}/{file:[A-Za-z0-9_-]+(\.[A-Za-z0-9_-]+)*}", self.page)])
+        application.on_response_prepare.append(named)
         application.on_cleanup.append(lambda _: self.answers.close())
         return application
