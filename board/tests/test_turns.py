@@ -70,8 +70,8 @@ def test_the_tower_is_answered_while_strangers_ask_at_once(board, path, options,
     answers = told.get(timeout=60)
     strangers.join()
     times.sort()
-    figure(f"{STRANGERS} strangers ask {' '.join([path, *options])} at once: the tower's {len(times)} replies in {1000 * times[len(times) // 2]:.0f} ms at the median, "
-           f"{1000 * times[-1]:.0f} ms at most; the strangers got {answers} answers in {SECONDS} s")
+    figure(f"{STRANGERS} strangers ask {' '.join([path, *options])} at once: the tower's {len(times)} replies in "
+           f"{1000 * times[len(times) // 2]:.0f} ms at the median, {1000 * times[-1]:.0f} ms at most; the strangers got {answers} answers in {SECONDS} s")
     assert times[-1] < 1 * FACTOR
     assert answers > STRANGERS / 10 / FACTOR
 
