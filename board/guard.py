@@ -160,7 +160,9 @@ class Guard(web.RequestHandler):
                      message: str | None = None) -> web.StreamResponse:
         """What is wrong before a request reaches the server's own code is the request's fault."""
         self.take()
-        return super().handle_error(request, 400, None, "the request is malformed")
+        answer = super().handle_error(request, 400, None, "the request is malformed")
+        answer.headers["Server"] = "cdmboard"
+        return answer
 
 
 def check_library(server: web.Server, door: Door) -> None:

@@ -45,6 +45,12 @@ PARTS = ("text/javascript", "text/css")
 Handler = Callable[[web.Request], Awaitable[web.StreamResponse]]
 
 
+async def named(_: web.Request, response: web.StreamResponse) -> None:
+    """Events, and what the library itself answers, say neither its version nor Python's."""
+    response.headers["Server"] = SAFE["Server"]
+    response.headers.setdefault("X-Content-Type-Options", SAFE["X-Content-Type-Options"])
+
+
 class Board:
     """What the requests of one board share."""
 
@@ -86,16 +92,15 @@ class Board:
                 request.protocol.show()
         self._unsent.check_own(self.callers.asker(request))
         refuse(not POSITION.fullmatch(after), 400, "Cdm-After is a position")
-        is_of_day = request.path.startswith("/v1/") and request.path != "/v1/session"
-        if is_of_day and (request.path != "/v1/records" or request.method in ("GET", "HEAD")):
-            await self._reached(request[DESK].name, int(after))
+        if request.path not in ("/v1/records", "/v1/session") or request.method in ("GET", "HEAD"):
+            await self._reached(request.get(DESK, READER).name, int(after))
         return await handler(request)
 
     async def _reached(self, desk: str, position: int) -> None:
         """Waits until a position is here. Raises Problem if it isn't in time, or too many wait."""
         if position <= self.day.position:
             return
-        refuse(self._waiting[desk] >= MOST_AFTER, 429, "too many requests wait for a position", Retry_After="1")
+        refuse(self._waiting[desk] >= MOST_AFTER, 503, "too many requests wait for a position", Retry_After="1")
         self._waiting[desk] += 1
         try:
             with contextlib.suppress(TimeoutError, Problem):
@@ -236,5 +241,6 @@ class Board:
             web.get("/v1/who", self.who), web.get("/v1/events", self.get_events, allow_head=False),
             web.get("/health", self.health.health), web.get("/ready", self.health.ready), web.get("/metrics", self.health.metrics),
             web.get("/", self.page), web.get(r"/page-{digest:[0-9a-f]+}/{file:[A-Za-z0-9_-]+(\.[A-Za-z0-9_-]+)*}", self.page)])
+        application.on_response_prepare.append(named)
         application.on_cleanup.append(lambda _: self.answers.close())
         return application

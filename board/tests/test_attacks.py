@@ -394,6 +394,17 @@ def test_an_answer_stays_on_its_site(board):
     assert board().get("/v1/plan.json").headers["Cross-Origin-Resource-Policy"] == "same-origin"
 
 
+def test_no_version_is_told(board):
+    """Of Python or of a library, by which one knows what else to try."""
+    server = board()
+    asked = {b"POST /v1/session HTTP/1.1\r\nHost: localhost\r\nConnection: close\r\nExpect: x\r\nContent-Length: 1\r\n\r\na": 417,
+             b"GET / HTTP/1.1\r\nBad\r\n\r\n": 400, b"GET /v1/events HTTP/1.1\r\nHost: localhost\r\n\r\n": 200,
+             b"GET /nix HTTP/1.1\r\nHost: localhost\r\nConnection: close\r\n\r\n": 404}
+    told = {text: raw(server, text, seconds=2 * FACTOR) for text in asked}
+    assert {text: statuses(answer) for text, answer in told.items()} == {text: [status] for text, status in asked.items()}
+    assert {tuple(re.findall(rb"(?i)\r\nServer: (.*?)\r\n", answer)) for answer in told.values()} == {(b"cdmboard",)}
+
+
 # Rights that end
 
 

@@ -325,7 +325,9 @@ def test_no_room_in_the_shared_folder_ends_nothing(files, board):
     for number in range(2):
         os.kill(server.sequencers()[0], signal.SIGKILL)
         until(lambda: server.metric("cdm_restarts") == number + 1 and server.get("/health").status == 200)
-        assert server.post([f"FLT,CD{number},5"], Cdm_Role="AP")[0]["reply"] == "ACCEPTED"
+        # Twice as much needs more room than the process before it leaves.
+        taken = server.post([f"FLT,CD{number}{flight:03},5" for flight in range(240)], Cdm_Role="AP")
+        assert getattr(taken, "status", 200) == 200
 
 
 def test_a_start_on_a_full_disk_ends_by_a_line(files, board):

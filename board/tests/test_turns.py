@@ -5,6 +5,7 @@ import resource
 import selectors
 import socket
 import time
+from collections import Counter
 from unittest import mock
 
 import pytest
@@ -13,7 +14,8 @@ from board.connections import Limits, Places
 from board.guard import Door, Guard
 from board.questions import Questions
 from board.turns import LONG_ROUND, MOST_TURNS, Turns
-from board.web import MOST_AFTER
+from board.web import MOST_AFTER, Board
+from board.words import Problem
 from conftest import FACTOR, figure
 
 STRANGERS, AT_EACH = 2000, 100
@@ -68,8 +70,8 @@ def test_the_tower_is_answered_while_strangers_ask_at_once(board, path, options,
     answers = told.get(timeout=60)
     strangers.join()
     times.sort()
-    figure(f"{STRANGERS} strangers ask {' '.join([path, *options])} at once: the tower's {len(times)} replies in {1000 * times[len(times) // 2]:.0f} ms at the median, "
-           f"{1000 * times[-1]:.0f} ms at most; the strangers got {answers} answers in {SECONDS} s")
+    figure(f"{STRANGERS} strangers ask {' '.join([path, *options])} at once: the tower's {len(times)} replies in "
+           f"{1000 * times[len(times) // 2]:.0f} ms at the median, {1000 * times[-1]:.0f} ms at most; the strangers got {answers} answers in {SECONDS} s")
     assert times[-1] < 1 * FACTOR
     assert answers > STRANGERS / 10 / FACTOR
 
@@ -200,33 +202,22 @@ def test_whose_turn_it_is():
     assert [places.rank(number) for number in range(5)] == [0, 1, 2, 0, 1]
 
 
-def many_wait(server, network):
-    """As many as may wait for the first position, from several addresses."""
-    made = []
-    for number in range(MOST_AFTER):
-        made.append(socket.create_connection(("127.0.0.1", server.port), timeout=60, source_address=(f"127.0.{network}.{1 + number // AT_EACH}", 0)))
-        made[-1].sendall(b"GET /v1/kinds HTTP/1.1\r\nHost: localhost\r\nCdm-After: 1\r\n\r\n")
-    return made
-
-
-def statuses(connections):
-    return {own.recv(1 << 16).partition(b"\r\n")[0] for own in connections}
-
-
-def test_so_many_wait_for_a_position(board):
-    """All who have no desk together, and each desk, since they go on at once when it comes. Nobody waits for what isn't of the day."""
-    server = board(DESKS, start=False)
-    server.write_desks(DESKS, "anyone")
-    server.start()
-    began = time.monotonic()
-    assert server.get("/health", Cdm_After="9").status == 200 and time.monotonic() - began < 1 * FACTOR
-    waiting = many_wait(server, 3)
-    assert server.get("/v1/kinds", Cdm_After="9").status == 429
-    assert server.get("/v1/kinds", "ap", Cdm_After="9").status == 503
-    assert statuses(waiting) == {b"HTTP/1.1 503 Service Unavailable"}
-    waiting = many_wait(server, 4)
-    server.post(["FLT,AB1,5"], "ap")
-    assert statuses(waiting) == {b"HTTP/1.1 200 OK"}
+def test_so_many_wait_for_a_position():
+    """All who have no desk together, and each desk, since they go on at once when it comes."""
+    async def waited():
+        board, here = Board.__new__(Board), asyncio.Event()
+        board._waiting, board.day = Counter(), mock.Mock(position=0, reached=lambda position: here.wait())
+        waiting = [asyncio.create_task(board._reached("", 1)) for _ in range(MOST_AFTER)]
+        await asyncio.sleep(0)
+        with pytest.raises(Problem, match="too many requests wait"):
+            await asyncio.wait_for(board._reached("", 1), 1)
+        waiting.append(asyncio.create_task(board._reached("ap", 1)))
+        await asyncio.sleep(0)
+        board.day.position = 1
+        here.set()
+        await asyncio.gather(*waiting)
+        assert board._waiting.total() == 0
+    asyncio.run(waited())
 
 
 def flooded_by(data):
