@@ -60,7 +60,6 @@ export class Head {
 
   now() {
     const { date, now } = this.day;
-    if ($('#date').textContent !== dayText(date)) $('#day').hidePopover(); // it was of the day before
     say($('#date'), dayText(date));
     say($('.now time'), hm(now, date));
     $('.now time').setAttribute('datetime', now);
