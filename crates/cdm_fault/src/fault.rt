@@ -17,7 +17,7 @@ use thiserror::Error;
 const USAGE_STATUS: u8 = 2;
 
 /// The bytes of stack with which every command works (local profile).
-pub const LEAST_STACK: u64 = 327_680;
+pub const LEAST_STACK: u64 = 393_216;
 
 /// What stops the program.
 #[derive(PartialEq, Eq, Debug, Drop, Error)]

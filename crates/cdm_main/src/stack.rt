@@ -16,7 +16,7 @@ const ROOM: usize = 1024;
 /// nothing is known. This takes little stack itself.
 #[inline(never)]
 pub(crate) fn short_stack<R: AllocGlobal + Files>(rt: &R) -> Option<u64>
-    ensures { IfSome result (λ bytes. bytes < 327680) }
+    ensures { IfSome result (λ bytes. bytes < 393216) }
 {
     let bytes = stack_told(rt)?;
     if bytes < LEAST_STACK {
