@@ -97,8 +97,8 @@ class Page:
         return self.driver.find_element(By.CSS_SELECTOR, selector)
 
     def click(self, selector):
-        """Rows are put in their places as soon as no finger is on the page."""
-        self.until("return document.querySelector(arguments[0]) !== null", selector)
+        """Rows are put in their places as soon as no finger is on the page, and what a card offers comes with its effect."""
+        self.until("return document.querySelector(arguments[0])?.getClientRects().length > 0", selector)
         self.find(selector).click()
 
     def type(self, selector, text):
