@@ -264,6 +264,7 @@ const SHOWN = {
       Object.assign(desk, { table: kinds, Form: RecordForm, movedOn });
       closings = new Closings({ day, desk, onSend: send });
       offered();
+      mine?.show();
       if (flight.name) flight.makeForm();
       if (panels.open === 'send') makeForm();
     });

@@ -39,6 +39,26 @@ def test_own_flights_are_first(page):
     shown.until("return document.querySelectorAll('#next tbody tr').length === 2")
 
 
+LATE = """const real = fetch; window.fetch = async (...words) => {
+    if (String(words[0]).includes('/v1/kinds')) await new Promise((done) => setTimeout(done, 3000));
+    return real(...words); }"""
+
+
+def test_kinds_that_come_last(page):
+    """A card takes a TOBT as soon as it is known what the desk may send."""
+    shown = page(OWN)
+    given = shown.driver.execute_cdp_cmd("Page.addScriptToEvaluateOnNewDocument", {"source": LATE})
+    try:
+        shown.allowed += DENIED
+        size(shown.driver, 360, 740)
+        shown.open("", ready=False)
+        sign_in(shown, "ground")
+        shown.until("return document.querySelectorAll('#mine li').length === 3")
+        shown.until("return document.querySelector('#mine form').getClientRects().length > 0")
+    finally:
+        shown.driver.execute_cdp_cmd("Page.removeScriptToEvaluateOnNewDocument", {"identifier": given["identifier"]})
+
+
 def test_cards_on_a_phone(page):
     """A TOBT is put on by presses, or typed on a number pad; its reply stands in the card."""
     shown = opened(page, 360)
