@@ -6,6 +6,7 @@ use crate::manual::{VERSION, manual};
 use crate::parsers::parser;
 use cdm_feed::{
     Ahead, CarryText, DayQuestion, DayText, GroupBy, Input, SheetQuestion, ShiftQuestion, Since,
+    role_of,
 };
 use cdm_flight::{FlightName, RunwayName};
 use cdm_kinds::Format;
@@ -184,6 +185,7 @@ fn named_in<'a>(
         Some(("carry", carry)) => carry_of(alloc, carry),
         Some(("check", check)) => Ok(check_of(check)),
         Some(("why", why)) => why_of(alloc, why),
+        Some(("options", options)) => options_of(alloc, options),
         Some(("load", load)) => load_of(alloc, load),
         Some(("next", next)) => next_of(alloc, next),
         Some(("warnings", words)) => shift_of(alloc, words, ShiftQuestion::Warnings),
@@ -441,6 +443,24 @@ fn why_of<'a>(alloc: Global, why: &ArgMatches<'a>) -> Result<Option<Command<'a>>
         Some(word) => {
             let flight = flight_in(alloc, word, "<FLIGHT>")?;
             question_of(alloc, why, DayQuestion::View(Question::Why(flight)))
+        }
+        None => Ok(None),
+    }
+}
+
+// The words of `options`, all of which the parser has seen to but the form of the flight and the number of workers.
+fn options_of<'a>(
+    alloc: Global,
+    options: &ArgMatches<'a>,
+) -> Result<Option<Command<'a>>, CommandFault> {
+    match options.get_str("FLIGHT") {
+        Some(word) => {
+            let flight = flight_in(alloc, word, "<FLIGHT>")?;
+            let role = options
+                .get_str("role")
+                .and_then(|role| role_of(role.as_bytes()));
+            let text = DayText::Options(flight, role, format_of(options));
+            told_by_many(alloc, options, None, text)
         }
         None => Ok(None),
     }

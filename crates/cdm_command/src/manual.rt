@@ -29,6 +29,9 @@ pub const COMPARE_ABOUT: &str = "Compare what-if scenarios, best first";
 /// What `why` does.
 pub const WHY_ABOUT: &str = "Show what delays or blocks one flight";
 
+/// What `options` does.
+pub const OPTIONS_ABOUT: &str = "Show which single records could help one flight";
+
 /// What `load` does.
 pub const LOAD_ABOUT: &str = "Show how full each runway is, cell by cell";
 
@@ -111,6 +114,14 @@ pub const WHY_EXAMPLE: &str = "\
 Examples:
   cdmseq why airport.csv feed.csv AB1
   cdmseq why airport.csv feed.csv AB1 --scenarios what_if.csv --scenario SHUT
+- reads standard input in place of one file.
+Full manual: cdmseq help | less";
+
+/// The end of the help of `options`.
+pub const OPTIONS_EXAMPLE: &str = "\
+Examples:
+  cdmseq options airport.csv feed.csv AB1
+  cdmseq options airport.csv feed.csv AB1 --role NM
 - reads standard input in place of one file.
 Full manual: cdmseq help | less";
 

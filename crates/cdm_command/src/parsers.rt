@@ -3,10 +3,10 @@
 use crate::manual::{
     ABOUT, CARRY_ABOUT, CARRY_EXAMPLE, CAUSES_ABOUT, CAUSES_EXAMPLE, CHECK_ABOUT, CHECK_EXAMPLE,
     COMPARE_ABOUT, COMPARE_EXAMPLE, EXAMPLES, HELP_ABOUT, HELP_EXAMPLE, KINDS_ABOUT, KINDS_EXAMPLE,
-    LIVE_ABOUT, LIVE_EXAMPLE, LOAD_ABOUT, LOAD_EXAMPLE, NEXT_ABOUT, NEXT_EXAMPLE, PICTURE_ABOUT,
-    PICTURE_EXAMPLE, PLAN_ABOUT, PLAN_EXAMPLE, SERVE_ABOUT, SERVE_EXAMPLE, TRACE_ABOUT,
-    TRACE_EXAMPLE, VERSION, VERSION_ABOUT, VERSION_EXAMPLE, WARNINGS_ABOUT, WARNINGS_EXAMPLE,
-    WHY_ABOUT, WHY_EXAMPLE,
+    LIVE_ABOUT, LIVE_EXAMPLE, LOAD_ABOUT, LOAD_EXAMPLE, NEXT_ABOUT, NEXT_EXAMPLE, OPTIONS_ABOUT,
+    OPTIONS_EXAMPLE, PICTURE_ABOUT, PICTURE_EXAMPLE, PLAN_ABOUT, PLAN_EXAMPLE, SERVE_ABOUT,
+    SERVE_EXAMPLE, TRACE_ABOUT, TRACE_EXAMPLE, VERSION, VERSION_ABOUT, VERSION_EXAMPLE,
+    WARNINGS_ABOUT, WARNINGS_EXAMPLE, WHY_ABOUT, WHY_EXAMPLE,
 };
 use clap::{Arg, ArgAction, Command as Parser};
 use std::alloc::{AllocError, Global};
@@ -19,6 +19,9 @@ const TABLE_FORMATS: &[&str] = &["text", "csv", "json"];
 
 /// What the causes of delays can be grouped by.
 const GROUPS: &[&str] = &["runway", "operator"];
+
+/// The roles that can send a record.
+const ROLES: &[&str] = &["AO", "GH", "AP", "ATC", "NM"];
 
 /// What the formats are, where there are two.
 const TEXT_OR_JSON: &str = "text, or json for programs";
@@ -201,6 +204,32 @@ fn why_parser<'a>(alloc: Global) -> Result<Parser<'a>, AllocError> {
     question_parser(parser.arg(flight)?, alloc, FORMATS, TEXT_OR_JSON)
 }
 
+// The role whose records are tried.
+fn role_arg<'a>(alloc: Global) -> Arg<'a> {
+    Arg::new(alloc, "role")
+        .long("role")
+        .value_name("ROLE")
+        .value_parser(ROLES)
+        .hide_possible_values(true)
+        .help("Try only what ROLE may send: AO, GH, AP, ATC or NM")
+}
+
+// The words that `options` takes.
+fn options_parser<'a>(alloc: Global) -> Result<Parser<'a>, AllocError> {
+    let parser = day_parser(alloc, "options", OPTIONS_ABOUT, OPTIONS_EXAMPLE)?;
+    let flight = required_arg(
+        alloc,
+        "FLIGHT",
+        "The flight that is to be helped",
+    ).allow_negative_numbers(true);
+    parser
+        .arg(flight)?
+        .arg(role_arg(alloc))?
+        .arg(format_arg(alloc, FORMATS, TEXT_OR_JSON))?
+        .arg(workers_arg(alloc))?
+        .arg(strict_arg(alloc))
+}
+
 // The words that `load` takes.
 fn load_parser<'a>(alloc: Global) -> Result<Parser<'a>, AllocError> {
     let parser = day_parser(alloc, "load", LOAD_ABOUT, LOAD_EXAMPLE)?;
@@ -345,6 +374,7 @@ pub(crate) fn parser<'a>(alloc: Global) -> Result<Parser<'a>, AllocError> {
     let parser = with(parser, causes_parser(alloc))?;
     let parser = with(parser, compare_parser(alloc))?;
     let parser = with(parser, why_parser(alloc))?;
+    let parser = with(parser, options_parser(alloc))?;
     let parser = with(parser, load_parser(alloc))?;
     let parser = with(parser, trace_parser(alloc))?;
     let parser = with(parser, picture_parser(alloc))?;

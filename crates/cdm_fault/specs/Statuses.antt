@@ -34,6 +34,7 @@ status_of_fault (fault.ShortStack bytes) = 1
 status_of_fault (fault.Run (run.Common e)) = status_of_common e
 status_of_fault (fault.Run (run.Scenario number word)) = 3
 status_of_fault (fault.Run (run.NoFlight name)) = 3
+status_of_fault (fault.Run (run.NotPlanned name status)) = 3
 status_of_fault (fault.Run (run.NoRunway name)) = 3
 status_of_fault (fault.Run (run.NoScenario name)) = 3
 status_of_fault (fault.Run run.OtherDay) = 2

@@ -77,6 +77,7 @@ impl Fault {
             Fault::Run(
                 RunError::Scenario(..)
                 | RunError::NoFlight(_)
+                | RunError::NotPlanned(..)
                 | RunError::NoRunway(_)
                 | RunError::NoScenario(_)
                 | RunError::Update(..)

@@ -56,6 +56,7 @@ module _ (question : DayQuestion) (format : Format) (d : DayRecord) (questions :
   untold-of (error.Common _) is = absurd is
   untold-of (error.Scenario number word) is = absurd is
   untold-of (error.NoFlight flight) is = (is.0, laid-of (Ok is.0) is.1, is.2)
+  untold-of (error.NotPlanned flight status) is = absurd is
   untold-of (error.NoRunway runway) is = (is.0, laid-of (Ok is.0) is.1, is.2)
   untold-of (error.NoScenario scenario) is = absurd is
   untold-of error.OtherDay is = absurd is

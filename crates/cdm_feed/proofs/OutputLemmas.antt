@@ -2,7 +2,7 @@
 use Rattle.std.{proofs.Common.{◌≡◌, ◌++◌, ◌∙◌, ℕ, List, Option, None, Some, Result, Ok, Err, sym, subst, subst₂}, specs.Option.IsSomeAnd}
 use Rattle.std.specs.{Result.IsOkAnd, List.{AllZip, IsDistinct, concat}}
 use Rattle.cdm_time.specs.declared.day.TimeFault.{TimeFault}
-use Rattle.cdm_flight.specs.{Journal.AirportRows, Names.same_name, declared.update.Update.Update, declared.word.RefusalWord.RefusalWord}
+use Rattle.cdm_flight.specs.{Journal.{AirportRows, flight_of}, Names.same_name, declared.update.Update.Update, declared.word.RefusalWord.RefusalWord}
 use Rattle.cdm_plan.specs.{Airport.{IsAirport, runway_names}, Day.{DayRecord, flights_in}, DayPlan.IsDayPlan}
 use Rattle.cdm_plan.proofs.OnePlanLemmas.{one_day_plan}
 use Rattle.cdm_scenario.specs.{inner.OneOutcome.{names_with_all, one_each}, Outcome.IsLaid, Scenarios.{ScenarioRecord, scenario_named}}
@@ -12,11 +12,12 @@ use Rattle.cdm_kinds.specs.declared.format.Format.{Format, TheVariants.{Text, Js
 use Rattle.cdm_table.proofs.TableLemmas.{one_plans, one_table}
 use Rattle.cdm_trace.{specs.Traces.{IsTrace, from_minute}, proofs.OneTrace.one}
 use Rattle.cdm_shift.{specs.Answers.IsDayAnswer, specs.declared.question.DayQuestion.DayQuestion, proofs.OneAnswer.answer_one}
+use Rattle.cdm_options_text.proofs.TextLemmas.{one_text}
 use Rattle.cdm_carry.{specs.declared.carry_text.CarryText.CarryText, proofs.NoticedLemmas.one_carried}
 use Rattle.cdm_files.{specs.FeedDay.day_in, proofs.FeedDayLemmas.{own_airport, own_journal}}
 use Rattle.cdm_feed.specs.{Answers.IsAnswer, Made.{HaveOne, IsAskedOf, IsMade, IsPlanIn, IsTextOf, IsTraceSince, IsView}}
 use Rattle.cdm_feed.specs.{Output.{HaveOneText, IsMadeBy, IsReport}, inner.OneAnswer.one_answer, declared.asked.DayText.DayText}
-use Rattle.cdm_feed.specs.declared.{asked.DayText.TheVariants.{Table, Picture, Answer, Trace}, asked.Asked.Asked, counted.Counted.Counted}
+use Rattle.cdm_feed.specs.declared.{asked.DayText.TheVariants.{Table, Picture, Answer, Trace, Options}, asked.Asked.Asked, counted.Counted.Counted}
 use Rattle.cdm_feed.specs.declared.runs.RunCounts.{RunCounts}
 use Rattle.cdm_feed.specs.declared.asked.DayText.TheVariants as told
 use Rattle.cdm_feed.specs.declared.asked.Asked.TheVariants as ask
@@ -138,3 +139,8 @@ one-each (ask.Day (Answer question scenario format)) airport feed scenarios =
     (λ g questions kept. one-of (day_in g feed) kept (own-day g feed kept) format question scenario questions)
 one-each (ask.Day (Trace flight since format)) airport feed scenarios =
     one-counted (Trace flight since format) airport feed scenarios (λ g questions kept. one-trace flight since format g feed kept)
+one-each (ask.Day (Options name role format)) airport feed scenarios =
+    one-counted (Options name role format) airport feed scenarios (λ g questions kept.
+    let d : DayRecord = day_in g feed in
+    let own : Own d = own-day g feed kept in
+    one_text format d own.0 own.1 (flight_of d.airport d.journal name) role)

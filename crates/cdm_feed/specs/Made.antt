@@ -4,6 +4,10 @@ use Rattle.std.specs.Option.{IsSomeAnd}
 use Rattle.std.specs.Result.{IsOkAnd}
 use Rattle.cdm_flight.specs.Journal.{AirportRows, flight_of}
 use Rattle.cdm_flight.specs.declared.word.RefusalWord.{RefusalWord}
+use Rattle.cdm_options_text.specs.Texts.{IsOptionsText}
+use Rattle.cdm_options.specs.Options.{IsOptionsFault}
+use Rattle.cdm_options.specs.declared.options.OptionsFault.{OptionsFault}
+use Rattle.cdm_options.specs.declared.options.OptionsFault.TheVariants as options
 use Rattle.cdm_sequence.specs.declared.plan.Plan.{Plan}
 use Rattle.cdm_plan.specs.Day.{DayRecord}
 use Rattle.cdm_plan.specs.DayPlan.{IsDayPlan}
@@ -35,7 +39,7 @@ use Rattle.cdm_files.specs.declared.run_error.RunError.{RunError}
 use Rattle.cdm_files.specs.declared.run_error.RunError.TheVariants as error
 use Rattle.cdm_feed.specs.Output.{IsMadeBy, IsReport}
 use Rattle.cdm_feed.specs.declared.asked.DayText.{DayText}
-use Rattle.cdm_feed.specs.declared.asked.DayText.TheVariants.{Table, Picture, Answer, Trace}
+use Rattle.cdm_feed.specs.declared.asked.DayText.TheVariants.{Table, Picture, Answer, Trace, Options}
 use Rattle.cdm_feed.specs.declared.asked.DayText.TheVariants as told
 use Rattle.cdm_feed.specs.declared.asked.Asked.{Asked}
 use Rattle.cdm_feed.specs.declared.asked.Asked.TheVariants as ask
@@ -85,6 +89,7 @@ IsTextOf (Table table) g feed = IsTable table (day_in g feed)
 IsTextOf Picture g feed = IsPicture (day_in g feed)
 IsTextOf (Answer question scenario format) g feed = λ questions. IsView format question (IsAskedOf scenario (day_in g feed) questions)
 IsTextOf (Trace flight since format) g feed = λ questions. IsTraceSince flight since format g feed
+IsTextOf (Options name role format) g feed = λ questions. let d = day_in g feed in IsOptionsText format d (flight_of d.airport d.journal name) role
 
 -- the text that is made of the bytes of an airport file, of a feed and of a third file, and what is counted
 abbrev pub IsMade : Asked → List ℕ → List ℕ → List ℕ → List ℕ → Counted → Type 0
@@ -105,7 +110,7 @@ HaveOne asked a f s = (x y : List ℕ) (c d : Counted) → IsMade asked a f s x 
 
 -- Why nothing is made.
 
--- a table that isn't made, and a question without an answer, as errors of a run
+-- a table that isn't made, a question without an answer, and a flight that nothing could help, as errors of a run
 abbrev pub table_error : TableFault → RunError
 table_error (table.NoScenario name) = error.NoScenario name
 table_error table.Memory = error.Common common.Memory
@@ -115,8 +120,13 @@ view_error (view.NoFlight name) = error.NoFlight name
 view_error (view.NoRunway name) = error.NoRunway name
 view_error view.Memory = error.Common common.Memory
 
--- why this isn't told of a day and scenarios: what is asked for isn't known, an update of the scenario is refused, or there
--- is no memory. A trace is asked for its time before its flight.
+abbrev pub options_error : OptionsFault → RunError
+options_error (options.NoFlight name) = error.NoFlight name
+options_error (options.NotPlanned name status) = error.NotPlanned name status
+options_error options.Memory = error.Common common.Memory
+
+-- why this isn't told of a day and scenarios: what is asked for isn't known, an update of the scenario is refused, the flight that is
+-- to be helped has left its stand or won't depart, or there is no memory. A trace is asked for its time before its flight.
 abbrev pub IsUntold : DayText → DayRecord → List ScenarioRecord → RunError → Type 0
 IsUntold asked d questions (error.Common common.Memory) = ⊤
 IsUntold (Answer question scenario format) d questions (error.NoFlight name) = HasNoView question (IsAskedOf scenario d questions) (view.NoFlight name)
@@ -126,6 +136,9 @@ IsUntold (Answer question scenario format) d questions (error.Update name number
 IsUntold (Trace flight since format) d questions (error.NoFlight name) =
     IsOk (from_minute d.airport.day since) × (flight ≡ Some name) × (flight_of d.airport d.journal name ≡ None)
 IsUntold (Trace flight since format) d questions error.OtherDay = IsErr (from_minute d.airport.day since)
+IsUntold (Options flight role format) d questions (error.NoFlight name) = IsOptionsFault (flight_of d.airport d.journal flight) flight (options.NoFlight name)
+IsUntold (Options flight role format) d questions (error.NotPlanned name status) =
+    IsOptionsFault (flight_of d.airport d.journal flight) flight (options.NotPlanned name status)
 IsUntold (Table table) d questions (error.NoScenario name) = unknown_among questions table ≡ Some name
 IsUntold asked d questions fault = ⊥
 

@@ -5,7 +5,7 @@ ghost use Rattle.cdm_feed.specs.Inputs.{third_input};
 use cdm_carry::CarryText;
 use cdm_check::FilePaths;
 use cdm_files::Input;
-use cdm_flight::FlightName;
+use cdm_flight::{FlightName, Role};
 use cdm_kinds::Format;
 use cdm_scenario::ScenarioName;
 use cdm_shift::DayQuestion;
@@ -26,6 +26,8 @@ pub enum DayText {
     /// Which records of the feed changed which flights, or this one flight. The list begins with the first record after which the clock
     /// is at this time or later.
     Trace(Option<FlightName>, Option<Since>, Format),
+    /// What could help this flight: each record that is tried alone, of those that this role may send, if one is named.
+    Options(FlightName, Option<Role>, Format),
 }
 
 /// What a run is asked for.

@@ -6,13 +6,14 @@ ghost use Rattle.cdm_files.specs.FeedDay.{day_in, refusals_in};
 ghost use Rattle.cdm_files.specs.Input.{input_limit};
 ghost use Rattle.cdm_files.specs.RunFaults.{IsRecordFault};
 ghost use Rattle.cdm_files.specs.ScenarioFile.{scenarios_in};
+ghost use Rattle.cdm_options_text.specs.Texts.{IsOptionsText};
 ghost use Rattle.cdm_picture.specs.Pictures.{IsPicture};
 ghost use Rattle.cdm_shift.specs.Warnings.{has_clock};
 ghost use Rattle.cdm_table.specs.Tables.{IsTable};
 ghost use Rattle.cdm_scenario.specs.Outcome.{IsLaid};
 ghost use Rattle.cdm_scenario.specs.Overlay.{with_updates};
 ghost use Rattle.cdm_scenario.specs.Scenarios.{ScenarioRecord};
-ghost use Rattle.cdm_feed.specs.Made.{IsAskedOf, IsKnown, IsMade, IsPlanIn, IsTraceSince, IsUnmade, IsUntold, IsView, table_error, view_error};
+ghost use Rattle.cdm_feed.specs.Made.{IsAskedOf, IsKnown, IsMade, IsPlanIn, IsTraceSince, IsUnmade, IsUntold, IsView, options_error, table_error, view_error};
 ghost use Rattle.cdm_feed.specs.Output.{IsReport};
 ghost use Rattle.cdm_feed.specs.inner.Over.{IsUntoldOver};
 
@@ -26,8 +27,10 @@ use cdm_day::{Airport, DayState, Records};
 use cdm_files::{
     AskedDay, CommonFault, Inputs, Lent, RunError, airport_of, asked_day, scenarios_of,
 };
-use cdm_flight::{FlightName, Update};
+use cdm_flight::{FlightName, Role, Update};
 use cdm_kinds::Format;
+use cdm_options::OptionsFault;
+use cdm_options_text::options_text;
 use cdm_phase::Gate;
 use cdm_picture::picture;
 use cdm_plan::Runner;
@@ -133,6 +136,34 @@ fn view_error(fault: ViewFault) -> RunError
         ViewFault::NoFlight(name) => RunError::NoFlight(name),
         ViewFault::NoRunway(name) => RunError::NoRunway(name),
         ViewFault::Memory => RunError::Common(CommonFault::Memory),
+    }
+}
+
+// Why nothing could help a flight, as the error of a run.
+fn options_error(fault: OptionsFault) -> RunError
+    ensures { result ≡ options_error fault }
+{
+    match fault {
+        OptionsFault::NoFlight(name) => RunError::NoFlight(name),
+        OptionsFault::NotPlanned(name, status) => RunError::NotPlanned(name, status),
+        OptionsFault::Memory => RunError::Common(CommonFault::Memory),
+    }
+}
+
+// What could help a flight of a day, by records of this role, if one is named.
+fn help_of<R: Threads + Sync, G: Gate>(
+    lent: &Lent<'_, R, G>,
+    name: FlightName,
+    role: Option<Role>,
+    format: Format,
+    day: &AskedDay,
+) -> Result<Vec<u8>, RunError>
+    ensures made { let d = day.now.state in IfOk result (λ text. IsOptionsText format d (flight_of d.airport d.journal name) role text.items) }
+    ensures fault { IfErr result (IsUntold (DayText.Options name role format) day.now.state day.now.scenarios.items) }
+{
+    match options_text(lent.alloc, format, &day.state, name, role, &runner_of(lent)) {
+        Ok(text) => Ok(text),
+        Err(fault) => Err(options_error(fault)),
     }
 }
 
@@ -366,6 +397,11 @@ fn made_of_day<R: Threads + Sync, G: Gate>(
         DayText::Answer(question, scenario, format) => {
             let day = day_of_inputs(lent, inputs)?;
             let text = answer_of(lent.alloc, Asking { question, format }, scenario, &day)?;
+            Ok(made_with(text, &day))
+        }
+        DayText::Options(name, role, format) => {
+            let day = day_of_inputs(lent, inputs)?;
+            let text = help_of(lent, name, role, format, &day)?;
             Ok(made_with(text, &day))
         }
     }

@@ -6,7 +6,7 @@ ghost use Rattle.cdm_files.specs.declared.run_error.RunError.TheVariants as erro
 use crate::common_fault::CommonFault;
 use crate::days_apart::DaysApart;
 use crate::output::WriteFault;
-use cdm_flight::{FlightName, RefusalWord, RunwayName};
+use cdm_flight::{FlightName, RefusalWord, RunwayName, Status};
 use cdm_scenario::ScenarioName;
 use std::alloc::AllocError;
 use thiserror::Error;
@@ -23,6 +23,9 @@ pub enum RunError {
     /// No such flight is known.
     #[error("no flight {}", .0.text())]
     NoFlight(FlightName),
+    /// The flight that is to be helped has left its stand, or won't depart.
+    #[error("{} is {}", .0.text(), stand_of(*.1))]
+    NotPlanned(FlightName, Status),
     /// The airport has no such runway.
     #[error("no runway {}", .0.text())]
     NoRunway(RunwayName),
@@ -41,6 +44,16 @@ pub enum RunError {
     /// The day of the next airport isn't the one after the airport's.
     #[error("NEXT_AIRPORT: {0}")]
     NextDay(DaysApart),
+}
+
+// How a flight stands, in words.
+fn stand_of(status: Status) -> &'static str {
+    match status {
+        Status::Planned => "planned",
+        Status::OffBlock { .. } => "off-block",
+        Status::Airborne { .. } => "airborne",
+        Status::Cancelled => "cancelled",
+    }
 }
 
 impl From<CommonFault> for RunError {
