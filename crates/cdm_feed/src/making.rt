@@ -104,6 +104,7 @@ fn table_error(fault: TableFault) -> RunError
 {
     match fault {
         TableFault::NoScenario(name) => RunError::NoScenario(name),
+        TableFault::Refused(name, number, word) => RunError::Update(name, number, word),
         TableFault::Memory => RunError::Common(CommonFault::Memory),
     }
 }

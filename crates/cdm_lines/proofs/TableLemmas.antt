@@ -12,7 +12,7 @@ use Rattle.cdm_scenario.specs.{Overlay.with_updates, Scenarios.ScenarioRecord, d
 use Rattle.cdm_scenario.specs.declared.outcome.Outcome.TheVariants.{Planned, Refused}
 use Rattle.cdm_json.specs.Plans.{count_members}
 use Rattle.cdm_json.specs.declared.plan.PlanOf.TheVariants as of
-use Rattle.cdm_table.specs.ComparisonJson.{AreChangeLinesBy, AreChangeLinesIf, IsComparisonJson, change_line, change_members, name_members}
+use Rattle.cdm_table.specs.ComparisonJson.{AreChangeLines, AreChangeLinesIf, IsComparisonJson, change_line, change_members, name_members}
 use Rattle.cdm_table.specs.{ComparisonJson.{summary_line, summary_members}, Plans.{IsLineBy, IsPlans, IsScenarioLine, refusal_members}}
 use Rattle.cdm_table.specs.declared.line.{Line.Line, Summary.Summary}
 use Rattle.cdm_table.specs.declared.line.Summary.TheVariants as summary
@@ -63,21 +63,20 @@ are_plans d refused scenarios text is =
     (lines-append is.own (concat is.answers) (one_line is.own (is_plan_line d of.Day is.plan refused is.own is.line))
     (lines-concat is.answers (lines-zip (IsScenarioLine d) (λ s t line. one_line t (is_line_by d s line.0 t line.2)) scenarios is.answers is.of_scenarios)))
 
-are_changes_by : (d : DayRecord) (s : ScenarioRecord) (by : Result (Counts × List Standing) (ℕ × RefusalWord)) (text : List ℕ) → AreChangeLinesBy d s by text → AreLines text
-are_changes_by d s (Ok (counts, changed)) text (before, had, after, has, is) =
+are_changes : (d next : DayRecord) (text : List ℕ) → AreChangeLines d next text → AreLines text
+are_changes d next text (changed, differ, before, had, after, has, is) =
     lines_same text _ is
     (lines-flat_map (change_line d.airport.day before after)
     (λ one. one_line _ (_, change_fits d.airport.day (flight_name one) (row_named before (flight_name one)) (row_named after (flight_name one)), refl)) changed)
-are_changes_by d s (Err refusal) text is = lines_same text [] is no_lines
 
-are_changes_if : (d : DayRecord) (asked : Option ScenarioRecord) (text : List ℕ) → AreChangeLinesIf d asked text → AreLines text
+are_changes_if : (d : DayRecord) (asked : Option DayRecord) (text : List ℕ) → AreChangeLinesIf d asked text → AreLines text
 are_changes_if d None text is = lines_same text [] is no_lines
-are_changes_if d (Some s) text (by, changed, are) = are_changes_by d s by text are
+are_changes_if d (Some next) text are = are_changes d next text are
 
 is_summary : (line : Line) → AreLines (summary_line line)
 is_summary line = one_line _ (_, summary_fits line.name line.summary, refl)
 
-pub is_comparison : (d : DayRecord) (scenarios : List ScenarioRecord) (asked : Option ScenarioRecord) (text : List ℕ) → IsComparisonJson d scenarios asked text → AreLines text
+pub is_comparison : (d : DayRecord) (scenarios : List ScenarioRecord) (asked : Option DayRecord) (text : List ℕ) → IsComparisonJson d scenarios asked text → AreLines text
 is_comparison d scenarios asked text is =
     lines_same text _ is.bytes
     (lines-append (flat_map summary_line is.ranked) is.told (lines-flat_map summary_line is_summary is.ranked) (are_changes_if d asked is.told is.of_asked))

@@ -37,6 +37,6 @@ pub fn plans_are_lines()
 
 /// A comparison.
 pub fn comparisons_are_lines()
-    ensures { (d : DayRecord) (scenarios : List ScenarioRecord) (asked : Option ScenarioRecord) (text : List ℕ) →
+    ensures { (d : DayRecord) (scenarios : List ScenarioRecord) (asked : Option DayRecord) (text : List ℕ) →
         IsComparisonJson d scenarios asked text → AreLines text }
 {}

@@ -6,9 +6,11 @@ use Rattle.cdm_table.specs.Comparison.{AreRanked, IsComparison, IsComparisonCsv,
 use Rattle.cdm_table.specs.Comparison.{delay_in, heading, is_refused, line_cmp, line_columns, line_fields, line_text, lines_from}
 use Rattle.cdm_table.specs.{ComparisonJson.{AreChangeLinesIf, IsComparisonJson, summary_line}, Plans.{IsPlans, IsScenarioLine}}
 use Rattle.cdm_csv.specs.Rows.{csv_text}
-use Rattle.cdm_table.specs.{Rows.{AreFlightRows, AreScenarioRows, IsCsv}, Tables.IsTable}
+use Rattle.cdm_table.specs.{Rows.{AreFlightRows, AreScenarioRows, IsCsv}, Tables.{IsLaidIf, IsTable, asked_day, asked_of, day_by}}
+use Rattle.std.specs.{Prelude.⊤, Option.option_map}
+use Rattle.cdm_view.proofs.ChangeLemmas.{Own}
 use Rattle.cdm_table.specs.inner.OneTable.{one_change_lines, one_flight_rows, one_plan_line, one_scenario_line, one_scenario_rows}
-use Rattle.cdm_table.specs.{inner.OneTable.{one_summary, one_told}, declared.line.Line.Line, declared.line.Summary.Summary}
+use Rattle.cdm_table.specs.{inner.OneTable.{one_summary, one_told, own_next}, declared.line.Line.Line, declared.line.Summary.Summary}
 use Rattle.cdm_table.specs.declared.{line.Summary.TheVariants.Planned, table.Table.Table}
 use Rattle.cdm_table.specs.declared.table.Table.TheVariants.{Csv, Comparison, ComparisonCsv, ComparisonJson}
 use Rattle.std.specs.{Cmp.{IsTotalOrder, bool_cmp_total}, Ordering.nat_cmp}
@@ -106,9 +108,18 @@ module _ (d : DayRecord) (runways : IsDistinct same_name (runway_names d.airport
       one_each (IsScenarioLine d) (one_scenario_line d runways flights) scenarios a.answers b.answers a.of_scenarios b.of_scenarios in
       a.bytes ∙ ((λ i. own i ++ concat (answers i)) ∙ sym b.bytes)
 
-  one_told_if : (before : List Standing) (asked : Option ScenarioRecord) (x y : List ℕ) → IsToldIf d before asked x → IsToldIf d before asked y → x ≡ y
-  one_told_if before None x y a b = a ∙ sym b
-  one_told_if before (Some s) x y a b = one_told d runways flights before s x y a b
+  -- the day of the scenario that is asked for has flights of its own names
+  OwnIf : Option DayRecord → Type 0
+  OwnIf None = ⊤
+  OwnIf (Some next) = Own next
+
+  own_asked : (asked : Option ScenarioRecord) → IsLaidIf d asked → OwnIf (option_map (day_by d) asked)
+  own_asked None laid = tt
+  own_asked (Some s) laid = own_next d runways flights s laid
+
+  one_told_if : (before : List Standing) (asked : Option DayRecord) → OwnIf asked → (x y : List ℕ) → IsToldIf d before asked x → IsToldIf d before asked y → x ≡ y
+  one_told_if before None own x y a b = a ∙ sym b
+  one_told_if before (Some next) own x y a b = one_told d runways flights before next own x y a b
 
   -- the day's standings and the lines
   one_ranked : (scenarios : List ScenarioRecord) (before then : List Standing) (x y : List Line) → AreRanked d scenarios before x → AreRanked d scenarios then y
@@ -123,12 +134,12 @@ module _ (d : DayRecord) (runways : IsDistinct same_name (runway_names d.airport
       rw (plans, summaries) b.ranking in
       (same, one_ranking (counts_of a.plan) scenarios a.summaries x y a.ranking ranking)
 
-  one_comparison : (scenarios : List ScenarioRecord) (asked : Option ScenarioRecord) (x y : List ℕ) → IsComparison d scenarios asked x
+  one_comparison : (scenarios : List ScenarioRecord) (asked : Option DayRecord) → OwnIf asked → (x y : List ℕ) → IsComparison d scenarios asked x
       → IsComparison d scenarios asked y → x ≡ y
-  one_comparison scenarios asked x y a b =
+  one_comparison scenarios asked own x y a b =
       let same = one_ranked scenarios a.before b.before a.ranked b.ranked a.lines b.lines in
       let asked_for : IsToldIf d a.before asked b.told = subst (λ (l : List Standing). IsToldIf d l asked b.told) (sym same.0) b.of_asked in
-      let told : a.told ≡ b.told = one_told_if a.before asked a.told b.told a.of_asked asked_for in
+      let told : a.told ≡ b.told = one_told_if a.before asked own a.told b.told a.of_asked asked_for in
       a.bytes ∙ ((λ i. heading ++ flat_map line_text (same.1 i) ++ told i) ∙ sym b.bytes)
 
   one_comparison_csv : (scenarios : List ScenarioRecord) (x y : List ℕ) → IsComparisonCsv d scenarios x → IsComparisonCsv d scenarios y → x ≡ y
@@ -136,19 +147,21 @@ module _ (d : DayRecord) (runways : IsDistinct same_name (runway_names d.airport
       let same = one_ranked scenarios a.before b.before a.ranked b.ranked a.lines b.lines in
       a.bytes ∙ (ap (λ lines. csv_text (line_columns ∷ map line_fields lines)) same.1 ∙ sym b.bytes)
 
-  one_lines_if : (asked : Option ScenarioRecord) (x y : List ℕ) → AreChangeLinesIf d asked x → AreChangeLinesIf d asked y → x ≡ y
-  one_lines_if None x y a b = a ∙ sym b
-  one_lines_if (Some s) x y a b = one_change_lines d runways flights s x y a b
+  one_lines_if : (asked : Option DayRecord) → OwnIf asked → (x y : List ℕ) → AreChangeLinesIf d asked x → AreChangeLinesIf d asked y → x ≡ y
+  one_lines_if None own x y a b = a ∙ sym b
+  one_lines_if (Some next) own x y a b = one_change_lines d runways flights next own x y a b
 
-  one_comparison_json : (scenarios : List ScenarioRecord) (asked : Option ScenarioRecord) (x y : List ℕ) → IsComparisonJson d scenarios asked x
+  one_comparison_json : (scenarios : List ScenarioRecord) (asked : Option DayRecord) → OwnIf asked → (x y : List ℕ) → IsComparisonJson d scenarios asked x
       → IsComparisonJson d scenarios asked y → x ≡ y
-  one_comparison_json scenarios asked x y a b =
+  one_comparison_json scenarios asked own x y a b =
       let same = one_ranked scenarios a.stood b.stood a.ranked b.ranked a.lines b.lines in
-      let told : a.told ≡ b.told = one_lines_if asked a.told b.told a.of_asked b.of_asked in
+      let told : a.told ≡ b.told = one_lines_if asked own a.told b.told a.of_asked b.of_asked in
       a.bytes ∙ ((λ i. flat_map summary_line (same.1 i) ++ told i) ∙ sym b.bytes)
 
   pub one_table : (table : Table) (scenarios : List ScenarioRecord) (x y : List ℕ) → IsTable table d scenarios x → IsTable table d scenarios y → x ≡ y
   one_table Csv scenarios x y a b = one_csv scenarios x y a b
-  one_table (Comparison asked) scenarios x y a b = one_comparison scenarios _ x y a.1 b.1
+  one_table (Comparison asked) scenarios x y a b =
+      one_comparison scenarios (asked_day d scenarios asked) (own_asked (asked_of scenarios asked) a.0.1) x y a.1 b.1
   one_table ComparisonCsv scenarios x y a b = one_comparison_csv scenarios x y a b
-  one_table (ComparisonJson asked) scenarios x y a b = one_comparison_json scenarios _ x y a.1 b.1
+  one_table (ComparisonJson asked) scenarios x y a b =
+      one_comparison_json scenarios (asked_day d scenarios asked) (own_asked (asked_of scenarios asked) a.0.1) x y a.1 b.1

@@ -12,7 +12,7 @@ use Rattle.cdm_flight.specs.declared.word.RefusalWord.{RefusalWord}
 use Rattle.cdm_sequence.specs.declared.plan.Plan.{Plan}
 use Rattle.cdm_report.specs.Columns.{left_in, right_in}
 use Rattle.cdm_report.specs.Counts.{counts_of}
-use Rattle.cdm_report.specs.Report.{line_end, refused_line}
+use Rattle.cdm_report.specs.Report.{line_end}
 use Rattle.cdm_report.specs.declared.counts.Counts.{Counts}
 use Rattle.cdm_plan.specs.Day.{DayRecord}
 use Rattle.cdm_plan.specs.DayPlan.{IsDayPlan}
@@ -108,19 +108,15 @@ change_lines day before s =
     option_map_or (marked_line day (codes "- ")) (find (λ t. same_name (flight_name t) (flight_name s)) before) []
     ++ marked_line day (codes "+ ") s
 
--- what is told of a scenario: each change, or the first refusal
-abbrev pub told_of : CalendarDate → List Standing → Result (Counts × List Standing) (ℕ × RefusalWord) → List ℕ
-told_of day before (Ok (counts, changed)) = flat_map (change_lines day before) changed
-told_of day before (Err refusal) = refused_line refusal
+-- what is told of the day with all updates of a scenario: each change
+abbrev pub AreTold : DayRecord → List Standing → DayRecord → List ℕ → Type 0
+AreTold d before next text =
+    (changed : List Standing) × IsChangedTo d next changed × (text ≡ flat_map (change_lines d.airport.day before) changed)
 
-abbrev pub AreTold : DayRecord → List Standing → ScenarioRecord → List ℕ → Type 0
-AreTold d before s text =
-    (by : Result (Counts × List Standing) (ℕ × RefusalWord)) × IsChanged d s by × (text ≡ told_of d.airport.day before by)
-
--- what is told of the scenario asked for, if one is
-abbrev pub IsToldIf : DayRecord → List Standing → Option ScenarioRecord → List ℕ → Type 0
+-- nothing where no scenario is asked for
+abbrev pub IsToldIf : DayRecord → List Standing → Option DayRecord → List ℕ → Type 0
 IsToldIf d before None text = text ≡ []
-IsToldIf d before (Some s) text = AreTold d before s text
+IsToldIf d before (Some next) text = AreTold d before next text
 
 -- the lines of the day, on which flights stand so, and of its scenarios, the best first
 pub record AreRanked (d : DayRecord) (scenarios : List ScenarioRecord) (before : List Standing) (ranked : List Line) : Type 0 where
@@ -131,8 +127,8 @@ pub record AreRanked (d : DayRecord) (scenarios : List ScenarioRecord) (before :
   pub of_scenarios : AllZip (IsSummary d) scenarios summaries
   pub ranking : IsRanking (all_lines (counts_of plan) scenarios summaries) ranked
 
--- a line for the day and one for each scenario, the best first, and then what is told of the one asked for
-pub record IsComparison (d : DayRecord) (scenarios : List ScenarioRecord) (asked : Option ScenarioRecord) (text : List ℕ) : Type 0 where
+-- a line for the day and one for each scenario, the best first, and then what is told of the day by the one asked for
+pub record IsComparison (d : DayRecord) (scenarios : List ScenarioRecord) (asked : Option DayRecord) (text : List ℕ) : Type 0 where
   pub before : List Standing
   pub ranked : List Line
   pub lines : AreRanked d scenarios before ranked

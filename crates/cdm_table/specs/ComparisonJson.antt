@@ -1,23 +1,20 @@
 -- A day and its scenarios side by side as JSON.
-use Rattle.std.specs.Prelude.{◌≡◌, ℕ, List, [], ◌∷◌, ◌++◌, codes, flat_map, Option, None, Some, Result, Ok, Err}
+use Rattle.std.specs.Prelude.{◌≡◌, ℕ, List, [], ◌∷◌, ◌++◌, codes, flat_map, Option, None, Some}
 use Rattle.json.specs.Json.{Json, string}
 use Rattle.cdm_time.specs.declared.calendar.CalendarDate.{CalendarDate}
-use Rattle.cdm_flight.specs.declared.word.RefusalWord.{RefusalWord}
 use Rattle.cdm_sequence.specs.declared.plan.Plan.{Plan}
-use Rattle.cdm_report.specs.declared.counts.Counts.{Counts}
 use Rattle.cdm_plan.specs.Day.{DayRecord}
 use Rattle.cdm_plan.specs.DayPlan.{IsDayPlan}
-use Rattle.cdm_view.specs.Standings.{flight_name}
+use Rattle.cdm_view.specs.Standings.{IsChangedTo, flight_name}
 use Rattle.cdm_view.specs.declared.standing.Standing.{Standing}
 use Rattle.cdm_row.specs.Changed.{row_named}
 use Rattle.cdm_row.specs.Json.{count_json, object_of, or_null, row_json}
 use Rattle.cdm_row.specs.Rows.{AreRows}
 use Rattle.cdm_row.specs.declared.row.Row.{Row}
-use Rattle.cdm_scenario.specs.Overlay.{with_updates}
 use Rattle.cdm_scenario.specs.Scenarios.{ScenarioRecord}
 use Rattle.cdm_json.specs.Lines.{json_line}
 use Rattle.cdm_json.specs.Plans.{count_members}
-use Rattle.cdm_table.specs.Comparison.{AreRanked, IsChanged}
+use Rattle.cdm_table.specs.Comparison.{AreRanked}
 use Rattle.cdm_table.specs.Plans.{refusal_members}
 use Rattle.cdm_table.specs.declared.line.Line.{Line}
 use Rattle.cdm_table.specs.declared.line.Summary.{Summary}
@@ -54,24 +51,19 @@ pub record AreDayRows (d : DayRecord) (rows : List Row) : Type 0 where
   pub of_day : IsDayPlan d plan
   pub are_rows : AreRows d plan rows
 
--- each flight that stands otherwise, with its Rows in the day and in that with all updates; nothing where one is refused
-abbrev pub AreChangeLinesBy : DayRecord → ScenarioRecord → Result (Counts × List Standing) (ℕ × RefusalWord) → List ℕ → Type 0
-AreChangeLinesBy d s (Ok (counts, changed)) text =
-    (before : List Row) × AreDayRows d before × (after : List Row) × AreDayRows (with_updates d s.updates) after
+-- each flight that stands otherwise, with its Rows in the day and in that with all updates of a scenario
+abbrev pub AreChangeLines : DayRecord → DayRecord → List ℕ → Type 0
+AreChangeLines d next text =
+    (changed : List Standing) × IsChangedTo d next changed × (before : List Row) × AreDayRows d before × (after : List Row) × AreDayRows next after
     × (text ≡ flat_map (change_line d.airport.day before after) changed)
-AreChangeLinesBy d s (Err refusal) text = text ≡ []
 
-abbrev pub AreChangeLines : DayRecord → ScenarioRecord → List ℕ → Type 0
-AreChangeLines d s text =
-    (by : Result (Counts × List Standing) (ℕ × RefusalWord)) × IsChanged d s by × AreChangeLinesBy d s by text
-
--- what changes by the scenario asked for, if one is
-abbrev pub AreChangeLinesIf : DayRecord → Option ScenarioRecord → List ℕ → Type 0
+-- nothing where no scenario is asked for
+abbrev pub AreChangeLinesIf : DayRecord → Option DayRecord → List ℕ → Type 0
 AreChangeLinesIf d None text = text ≡ []
-AreChangeLinesIf d (Some s) text = AreChangeLines d s text
+AreChangeLinesIf d (Some next) text = AreChangeLines d next text
 
 -- a line for the day and one for each scenario, the best first, and then what changes by the one asked for
-pub record IsComparisonJson (d : DayRecord) (scenarios : List ScenarioRecord) (asked : Option ScenarioRecord) (text : List ℕ) : Type 0 where
+pub record IsComparisonJson (d : DayRecord) (scenarios : List ScenarioRecord) (asked : Option DayRecord) (text : List ℕ) : Type 0 where
   pub stood : List Standing
   pub ranked : List Line
   pub lines : AreRanked d scenarios stood ranked

@@ -1,3 +1,4 @@
 pub mod OneTable
 pub mod OwnRows
 pub mod Lines
+pub mod Refusals

@@ -2,18 +2,16 @@
 ghost use Rattle.std.specs.Prelude.{◌≡◌, ◌++◌, ◌<◌, ◌≤◌, ℕ, [], IfOk, OnOk, Some, codes, flat_map, length, slice_index, unwrap_or};
 ghost use Rattle.std.specs.Option.{option_copied, option_map_or};
 ghost use Rattle.std.specs.String.{string_bytes};
-ghost use Rattle.cdm_table.specs.Comparison.{IsComparison, IsToldIf, change_lines, heading, line_text, marked_line, summary_text, told_of};
+ghost use Rattle.cdm_table.specs.Comparison.{AreTold, IsComparison, IsToldIf, change_lines, heading, line_text, marked_line, summary_text};
 
-use crate::changing::{Changed, changed_by};
 use crate::line::{Line, Summary};
 use crate::ranking::{Ranking, ranked_lines};
-use cdm_day::DayState;
+use cdm_day::{DayState, Records};
 use cdm_phase::Gate;
 use cdm_plan::Runner;
-use cdm_report::refused_text;
-use cdm_scenario::{Scenario, ScenarioName};
+use cdm_scenario::{Overlay, Scenario, ScenarioName};
 use cdm_time::Day;
-use cdm_view::{Standing, Standings, push_standing};
+use cdm_view::{Standing, Standings, changes_to, push_standing};
 use std::alloc::{AllocError, Global};
 use std::fmt;
 use std::fmt::Write;
@@ -139,51 +137,45 @@ fn push_changes(
     Ok(())
 }
 
-// What is told of a scenario.
+// What is told of the day with all updates of a scenario.
 fn told_of(
     alloc: Global,
-    day: Day,
+    base: &DayState,
     before: &Standings,
-    changed: &Changed,
+    day: &Overlay<'_>,
 ) -> Result<Vec<u8>, AllocError>
-    ensures { IfOk result (λ text. text.items ≡ told_of day before.now changed.now) }
+    ensures { IfOk result (λ text. AreTold base.now before.now day.now text.items) }
 {
-    match changed {
-        Ok((_, changed)) => {
-            let mut text = String::new(alloc);
-            push_changes(&mut text, day, before, changed.as_slice())?;
-            Ok(text.into_bytes())
-        }
-        Err((number, word)) => refused_text(alloc, *number, *word),
-    }
+    let plan = day.plan(alloc)?;
+    let changed = changes_to(alloc, base, day, &plan)?;
+    let mut text = String::new(alloc);
+    push_changes(&mut text, *base.day(), before, &changed)?;
+    Ok(text.into_bytes())
 }
 
-// What is told of the scenario, if one is asked for.
+// What is told of the day by the scenario that is asked for, if one is.
 fn told(
     alloc: Global,
     base: &DayState,
     before: &Standings,
-    asked: Option<&Scenario>,
+    asked: Option<&Overlay<'_>>,
 ) -> Result<Vec<u8>, AllocError>
     ensures { IfOk result (λ text. IsToldIf base.now before.now (option_copied asked.entry) text.items) }
 {
     match asked {
-        Some(scenario) => {
-            let changed = changed_by(alloc, base, scenario)?;
-            told_of(alloc, *base.day(), before, &changed)
-        }
+        Some(day) => told_of(alloc, base, before, day),
         None => Ok(Vec::new(alloc)),
     }
 }
 
-/// A line for the day and for each scenario, the best first, and then what changes by the scenario that is
-/// asked for, if one is. Each scenario is answered over the base by one of the workers in phase
+/// A line for the day and for each scenario, the best first, and then what changes in the day with all updates of the
+/// scenario that is asked for, if one is. Each scenario is answered over the base by one of the workers in phase
 /// `Scenarios`, and every scenario is one piece.
 pub(crate) fn comparison<R: Threads + Sync, G: Gate>(
     alloc: Global,
     base: &DayState,
     scenarios: &[Scenario],
-    asked: Option<&Scenario>,
+    asked: Option<&Overlay<'_>>,
     runner: &Runner<'_, R, G>,
 ) -> Result<Vec<u8>, AllocError>
     ensures { IfOk result (λ text. IsComparison base.now scenarios.now (option_copied asked.entry) text.items) }

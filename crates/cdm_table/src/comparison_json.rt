@@ -9,7 +9,7 @@ ghost use Rattle.cdm_table.specs.ComparisonJson.{AreChangeLines, AreChangeLinesI
 use crate::line::{Line, Summary};
 use crate::plans::push_refusal;
 use crate::ranking::{Ranking, ranked_lines};
-use cdm_day::DayState;
+use cdm_day::{DayState, Records};
 use cdm_flight::FlightName;
 use cdm_json::{begin_line, end_line, push_counts};
 use cdm_phase::Gate;
@@ -151,47 +151,41 @@ fn change_lines(
     Ok(text)
 }
 
-// What changes by a scenario.
-fn told_of(alloc: Global, base: &DayState, scenario: &Scenario) -> Result<Vec<u8>, AllocError>
-    ensures { IfOk result (λ text. AreChangeLines base.now scenario.now text.items) }
+// What changes in the day with all updates of a scenario.
+fn told_of(alloc: Global, base: &DayState, day: &Overlay<'_>) -> Result<Vec<u8>, AllocError>
+    ensures { IfOk result (λ text. AreChangeLines base.now day.now text.items) }
 {
-    match Overlay::after(alloc, base, scenario.updates())? {
-        Ok(day) => {
-            let plan = day.plan(alloc)?;
-            let changed = changes_to(alloc, base, &day, &plan)?;
-            let known = base.plan();
-            let before = Rows::of(alloc, base, known)?;
-            let after = Rows::of(alloc, &day, &plan)?;
-            let sides = Sides {
-                day: *base.day(),
-                before: &before,
-                after: &after,
-            };
-            let text = change_lines(alloc, &sides, &changed)?;
-            Ok(text)
-        }
-        Err(_) => Ok(Vec::new(alloc)),
-    }
+    let plan = day.plan(alloc)?;
+    let changed = changes_to(alloc, base, day, &plan)?;
+    let known = base.plan();
+    let before = Rows::of(alloc, base, known)?;
+    let after = Rows::of(alloc, day, &plan)?;
+    let sides = Sides {
+        day: *base.day(),
+        before: &before,
+        after: &after,
+    };
+    change_lines(alloc, &sides, &changed)
 }
 
-// What changes by the scenario, if one is asked for.
-fn told(alloc: Global, base: &DayState, asked: Option<&Scenario>) -> Result<Vec<u8>, AllocError>
+// What changes in the day by the scenario that is asked for, if one is.
+fn told(alloc: Global, base: &DayState, asked: Option<&Overlay<'_>>) -> Result<Vec<u8>, AllocError>
     ensures { IfOk result (λ text. AreChangeLinesIf base.now (option_copied asked.entry) text.items) }
 {
     match asked {
-        Some(scenario) => told_of(alloc, base, scenario),
+        Some(day) => told_of(alloc, base, day),
         None => Ok(Vec::new(alloc)),
     }
 }
 
 /// A line of JSON for the day and for each scenario, the best first, and then one for each flight that stands otherwise by
-/// the scenario that is asked for, if one is, with its Rows before and after. Each scenario is answered over the base by
+/// all updates of the scenario that is asked for, if one is, with its Rows before and after. Each scenario is answered over the base by
 /// one of the workers in phase `Scenarios`, and every scenario is one piece.
 pub(crate) fn comparison_json<R: Threads + Sync, G: Gate>(
     alloc: Global,
     base: &DayState,
     scenarios: &[Scenario],
-    asked: Option<&Scenario>,
+    asked: Option<&Overlay<'_>>,
     runner: &Runner<'_, R, G>,
 ) -> Result<Vec<u8>, AllocError>
     ensures { IfOk result (λ text. IsComparisonJson base.now scenarios.now (option_copied asked.entry) text.items) }

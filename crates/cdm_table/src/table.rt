@@ -1,7 +1,8 @@
 //! Tables over a day and its scenarios.
-ghost use Rattle.std.specs.Prelude.{◌≡◌, ℕ, List, None, IfErr, IfOk, OnOk};
+ghost use Rattle.std.specs.Prelude.{◌≡◌, ℕ, List, None, Some, IfErr, IfOk, OnOk};
 ghost use Rattle.std.specs.Option.{option_copied};
-ghost use Rattle.cdm_table.specs.Tables.{IsFaultOf, IsTable, IsTableFault, asked_of, unknown_in};
+ghost use Rattle.cdm_table.specs.Tables.{IsAsked, IsFaultOf, IsLaidIf, IsTable, IsTableFault, asked_day, asked_of, day_by, unknown_in};
+ghost use Rattle.cdm_table.specs.inner.Refusals.{IsRefusedOr};
 ghost use Rattle.cdm_table.specs.declared.table.TableFault.TheVariants as fault;
 
 use crate::comparison::comparison;
@@ -9,9 +10,10 @@ use crate::comparison_json::comparison_json;
 use crate::csv_rows::csv;
 use crate::line_rows::comparison_csv;
 use cdm_day::{DayState, Records};
+use cdm_flight::RefusalWord;
 use cdm_phase::Gate;
 use cdm_plan::Runner;
-use cdm_scenario::{Scenario, ScenarioName, scenario_named};
+use cdm_scenario::{Overlay, Scenario, ScenarioName, scenario_named};
 use std::alloc::{AllocError, Global};
 use std::thread::Threads;
 
@@ -35,6 +37,8 @@ pub enum Table {
 pub enum TableFault {
     /// There is no scenario of this name.
     NoScenario(ScenarioName),
+    /// An update of the scenario of this name is refused: the first of them, by its number from 1, and the word that refuses it.
+    Refused(ScenarioName, usize, RefusalWord),
     /// Want of memory.
     Memory,
 }
@@ -54,7 +58,7 @@ fn asked_of(
 ) -> Result<Option<&Scenario>, TableFault>
     ensures asked { IfOk result (λ scenario. option_copied scenario ≡ asked_of scenarios.now asked) }
     ensures known { OnOk result (unknown_in scenarios.now asked ≡ None) }
-    ensures fault { IfErr result (IsFaultOf (unknown_in scenarios.now asked)) }
+    ensures fault { IfErr result (λ fault. (name : List ℕ) × (fault ≡ TableFault.NoScenario name) × (unknown_in scenarios.now asked ≡ Some name)) }
 {
     let Some(name) = asked else {
         return Ok(None);
@@ -65,13 +69,47 @@ fn asked_of(
     }
 }
 
+// The day with all updates of a scenario.
+fn day_by<'a>(
+    alloc: Global,
+    base: &'a DayState,
+    scenario: &Scenario,
+) -> Result<Overlay<'a>, TableFault>
+    ensures day { IfOk result (λ day. day ≡ day_by base.now scenario.now) }
+    ensures laid { OnOk result (IsLaidIf base.now (Some scenario.now)) }
+    ensures fault { IfErr result (IsRefusedOr base.now scenario.now) }
+{
+    match Overlay::after(alloc, base, scenario.updates())? {
+        Ok(day) => Ok(day),
+        Err((number, word)) => Err(TableFault::Refused(*scenario.name(), number, word)),
+    }
+}
+
+// The day with all updates of the scenario of this name, if one is asked for.
+fn asked_day<'a>(
+    alloc: Global,
+    base: &'a DayState,
+    scenarios: &[Scenario],
+    asked: Option<ScenarioName>,
+) -> Result<Option<Overlay<'a>>, TableFault>
+    ensures day { IfOk result (λ day. day ≡ asked_day base.now scenarios.now asked) }
+    ensures asked { OnOk result (IsAsked base.now scenarios.now asked) }
+    ensures fault { IfErr result (IsFaultOf base.now scenarios.now asked) }
+{
+    match asked_of(scenarios, asked)? {
+        Some(scenario) => Ok(Some(day_by(alloc, base, scenario)?)),
+        None => Ok(None),
+    }
+}
+
 /// The table of a day and scenarios over it: as CSV each known flight's row by name, of the day and then of
 /// each scenario (`each_flight_has_one_row` of `cdm_row`), or the scenarios side by side, the best first: fewer blocked
 /// flights, then less delay, then the order of the file, in which the day itself is first; and behind them
 /// those that are refused (local profile), as text, as CSV or as JSON. Each scenario is answered over the base, by
 /// one of the workers in phase `Scenarios`, and every scenario is one piece.
 ///
-/// `NoScenario` where none of them has the name that is asked for, and else only `Memory`.
+/// `NoScenario` where none of them has the name that is asked for, `Refused` where an update of the one that has it is refused, and else
+/// only `Memory`.
 pub fn tabulate<R: Threads + Sync, G: Gate>(
     alloc: Global,
     base: &DayState,
@@ -81,7 +119,7 @@ pub fn tabulate<R: Threads + Sync, G: Gate>(
 ) -> Result<Vec<u8>, TableFault>
     ensures table { IfOk result (λ text. IsTable table base.now scenarios.now text.items) }
     ensures only { IfOk result (λ text. (other : List ℕ) → IsTable table base.now scenarios.now other → other ≡ text.items) }
-    ensures fault { IfErr result (IsTableFault scenarios.now table) }
+    ensures fault { IfErr result (IsTableFault base.now scenarios.now table) }
 {
     // What the base's records tell is sound, which makes the table the only one.
     let _values = base.values();
@@ -89,12 +127,12 @@ pub fn tabulate<R: Threads + Sync, G: Gate>(
         Table::Csv => Ok(csv(alloc, base, scenarios, runner)?),
         Table::ComparisonCsv => Ok(comparison_csv(alloc, base, scenarios, runner)?),
         Table::Comparison(asked) => {
-            let asked = asked_of(scenarios, asked)?;
-            Ok(comparison(alloc, base, scenarios, asked, runner)?)
+            let day = asked_day(alloc, base, scenarios, asked)?;
+            Ok(comparison(alloc, base, scenarios, day.as_ref(), runner)?)
         }
         Table::ComparisonJson(asked) => {
-            let asked = asked_of(scenarios, asked)?;
-            Ok(comparison_json(alloc, base, scenarios, asked, runner)?)
+            let day = asked_day(alloc, base, scenarios, asked)?;
+            Ok(comparison_json(alloc, base, scenarios, day.as_ref(), runner)?)
         }
     }
 }

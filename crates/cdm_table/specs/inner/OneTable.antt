@@ -1,5 +1,5 @@
 -- A scenario has one answer in each table.
-use Rattle.std.proofs.Common.{◌≡◌, ◌∙◌, ℕ, List, [], Result, Ok, Err, sym, ap, subst}
+use Rattle.std.proofs.Common.{◌≡◌, ◌∙◌, ℕ, List, [], Some, Result, Ok, Err, sym, ap, subst}
 use Rattle.std.specs.Prelude.{flat_map}
 use Rattle.std.specs.List.{IsDistinct}
 use Rattle.cdm_flight.specs.Names.{same_name}
@@ -24,9 +24,10 @@ use Rattle.cdm_scenario.specs.Scenarios.{ScenarioRecord}
 use Rattle.cdm_scenario.specs.declared.outcome.Outcome.{Outcome}
 use Rattle.cdm_scenario.specs.declared.outcome.Outcome.TheVariants.{Planned, Refused}
 use Rattle.cdm_scenario.specs.inner.OneOutcome.{names_with_all, one_outcome}
-use Rattle.cdm_table.specs.Comparison.{AreTold, IsChanged, IsSummary, summary_of, told_of}
-use Rattle.cdm_table.specs.ComparisonJson.{AreChangeLines, AreChangeLinesBy, AreDayRows, change_line}
+use Rattle.cdm_table.specs.Comparison.{AreTold, IsChanged, IsSummary, change_lines, summary_of}
+use Rattle.cdm_table.specs.ComparisonJson.{AreChangeLines, AreDayRows, change_line}
 use Rattle.cdm_table.specs.Plans.{IsLineBy, IsScenarioLine}
+use Rattle.cdm_table.specs.Tables.{IsLaidIf, day_by}
 use Rattle.cdm_table.specs.Rows.{AreFlightRows, AreRowsBy, AreScenarioRows, flights_text}
 use Rattle.cdm_table.specs.declared.line.Summary.{Summary}
 
@@ -98,21 +99,20 @@ module _ (d : DayRecord) (runways : IsDistinct same_name (runway_names d.airport
   pub one_summary : (s : ScenarioRecord) (x y : Summary) → IsSummary d s x → IsSummary d s y → x ≡ y
   one_summary s x y a b = a.2 ∙ (ap summary_of (one_changed s a.0 b.0 a.1 b.1) ∙ sym b.2)
 
+  -- the day with all updates of a scenario, none of which is refused, has flights of its own names
+  pub own_next : (s : ScenarioRecord) → IsLaidIf d (Some s) → Own (day_by d s)
+  own_next s laid = (runways, names_with_all d s.updates flights laid.0)
+
   -- as lines
-  pub one_told : (before : List Standing) (s : ScenarioRecord) (x y : List ℕ) → AreTold d before s x → AreTold d before s y → x ≡ y
-  one_told before s x y a b = a.2 ∙ (ap (told_of d.airport.day before) (one_changed s a.0 b.0 a.1 b.1) ∙ sym b.2)
+  pub one_told : (before : List Standing) (next : DayRecord) → Own next → (x y : List ℕ) → AreTold d before next x → AreTold d before next y → x ≡ y
+  one_told before next own x y a b =
+      let changed : a.0 ≡ b.0 = one_changed_to d next (runways, flights) own a.0 b.0 a.1 b.1 in
+      a.2 ∙ (ap (flat_map (change_lines d.airport.day before)) changed ∙ sym b.2)
 
   -- as lines of JSON
-  one_lines_by : (s : ScenarioRecord) (by : Result (Counts × List Standing) (ℕ × RefusalWord)) → IsChanged d s by
-      → (x y : List ℕ) → AreChangeLinesBy d s by x → AreChangeLinesBy d s by y → x ≡ y
-  one_lines_by s (Ok (c, changed)) is x y a b =
-      let own : a.0 ≡ b.0 = one_day_rows d runways flights a.0 b.0 a.1 b.1 in
-      let names = names_with_all d s.updates flights is.1.0 in
-      let after : a.2 ≡ b.2 = one_day_rows (with_updates d s.updates) runways names a.2 b.2 a.3 b.3 in
-      a.4 ∙ ((λ i. flat_map (change_line d.airport.day (own i) (after i)) changed) ∙ sym b.4)
-  one_lines_by s (Err refusal) is x y a b = a ∙ sym b
-
-  pub one_change_lines : (s : ScenarioRecord) (x y : List ℕ) → AreChangeLines d s x → AreChangeLines d s y → x ≡ y
-  one_change_lines s x y a b =
-      let same : a.0 ≡ b.0 = one_changed s a.0 b.0 a.1 b.1 in
-      one_lines_by s a.0 a.1 x y a.2 (subst (λ (by : Result (Counts × List Standing) (ℕ × RefusalWord)). AreChangeLinesBy d s by y) (sym same) b.2)
+  pub one_change_lines : (next : DayRecord) → Own next → (x y : List ℕ) → AreChangeLines d next x → AreChangeLines d next y → x ≡ y
+  one_change_lines next own x y a b =
+      let changed : a.0 ≡ b.0 = one_changed_to d next (runways, flights) own a.0 b.0 a.1 b.1 in
+      let before : a.2 ≡ b.2 = one_day_rows d runways flights a.2 b.2 a.3 b.3 in
+      let after : a.4 ≡ b.4 = one_day_rows next own.0 own.1 a.4 b.4 a.5 b.5 in
+      a.6 ∙ ((λ i. flat_map (change_line d.airport.day (before i) (after i)) (changed i)) ∙ sym b.6)
