@@ -109,7 +109,7 @@ module _ (d : DayRecord) (runways : IsDistinct same_name (runway_names d.airport
       a.bytes ∙ ((λ i. own i ++ concat (answers i)) ∙ sym b.bytes)
 
   -- the day of the scenario that is asked for has flights of its own names
-  OwnIf : Option DayRecord → Type 0
+  abbrev OwnIf : Option DayRecord → Type 0
   OwnIf None = ⊤
   OwnIf (Some next) = Own next
 
