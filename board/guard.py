@@ -23,6 +23,9 @@ HEADERS = 10.0
 OF_A_PROXY = 75.0
 UNTAKEN = 60.0
 HOUR = 3600.0
+# So many connections may wait to be let in. The event loop lets in a hundred each time it comes round, and the kernel drops what is beyond the queue:
+# whoever is dropped tries again a second later.
+QUEUE = 4096
 
 
 class Door(socket.socket):
@@ -38,6 +41,10 @@ class Door(socket.socket):
         self._is_for_proxy = is_for_proxy
         self._guests = dict[int, Guest]()
         self._came_round = Windows(HOUR)
+
+    def listen(self, backlog: int = 0, /) -> None:
+        """Takes connections, of which QUEUE may wait, or as many as the kernel allows. `backlog` is how many the event loop lets in at once."""
+        super().listen(QUEUE)
 
     def accept(self) -> tuple[socket.socket, Any]:
         connection, peer = super().accept()

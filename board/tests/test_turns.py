@@ -3,6 +3,7 @@ import asyncio
 import multiprocessing
 import resource
 import selectors
+import signal
 import socket
 import time
 from collections import Counter
@@ -74,6 +75,21 @@ def test_the_tower_is_answered_while_strangers_ask_at_once(board, path, options,
            f"{1000 * times[len(times) // 2]:.0f} ms at the median, {1000 * times[-1]:.0f} ms at most; the strangers got {answers} answers in {SECONDS} s")
     assert times[-1] < 1 * FACTOR
     assert answers > STRANGERS / 10 / FACTOR
+
+
+def test_those_who_come_at_once_wait_to_be_let_in(board):
+    """A thousand come while the server is busy; none of them is dropped and has to try again a second later."""
+    server = board(DESKS)
+    came = []
+    server.process.send_signal(signal.SIGSTOP)
+    try:
+        for _ in range(1000):
+            came.append(socket.create_connection(("127.0.0.1", server.port), timeout=0.9))
+    finally:
+        server.process.send_signal(signal.SIGCONT)
+        for one in came:
+            one.close()
+    assert len(came) == 1000
 
 
 def rows(numbers, turns):
