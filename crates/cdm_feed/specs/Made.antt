@@ -22,7 +22,7 @@ use Rattle.cdm_kinds.specs.declared.format.Format.TheVariants.{Text, Json}
 use Rattle.cdm_table.specs.Plans.{IsPlans}
 use Rattle.cdm_table.specs.Tables.{IsTable, IsTableFault}
 use Rattle.cdm_table.specs.declared.table.TableFault.{TableFault}
-use Rattle.cdm_table.specs.declared.table.TableFault.TheVariants as table
+use Rattle.cdm_table.specs.declared.table.TableFault.TheVariants as untabled
 use Rattle.cdm_picture.specs.Pictures.{IsPicture}
 use Rattle.cdm_trace.specs.Traces.{IsTrace, from_minute}
 use Rattle.cdm_check.specs.Paths.{IsCheckAt, counts_at}
@@ -112,9 +112,9 @@ HaveOne asked a f s = (x y : List ℕ) (c d : Counted) → IsMade asked a f s x 
 
 -- a table that isn't made, a question without an answer, and a flight that nothing could help, as errors of a run
 abbrev pub table_error : TableFault → RunError
-table_error (table.NoScenario name) = error.NoScenario name
-table_error (table.Refused name number word) = error.Update name number word
-table_error table.Memory = error.Common common.Memory
+table_error (untabled.NoScenario name) = error.NoScenario name
+table_error (untabled.Refused name number word) = error.Update name number word
+table_error untabled.Memory = error.Common common.Memory
 
 abbrev pub view_error : ViewFault → RunError
 view_error (view.NoFlight name) = error.NoFlight name
@@ -140,8 +140,8 @@ IsUntold (Trace flight since format) d questions error.OtherDay = IsErr (from_mi
 IsUntold (Options flight role format) d questions (error.NoFlight name) = IsOptionsFault (flight_of d.airport d.journal flight) flight (options.NoFlight name)
 IsUntold (Options flight role format) d questions (error.NotPlanned name status) =
     IsOptionsFault (flight_of d.airport d.journal flight) flight (options.NotPlanned name status)
-IsUntold (Table table) d questions (error.NoScenario name) = IsTableFault d questions table (table.NoScenario name)
-IsUntold (Table table) d questions (error.Update name number word) = IsTableFault d questions table (table.Refused name number word)
+IsUntold (Table table) d questions (error.NoScenario name) = IsTableFault d questions table (untabled.NoScenario name)
+IsUntold (Table table) d questions (error.Update name number word) = IsTableFault d questions table (untabled.Refused name number word)
 IsUntold asked d questions fault = ⊥
 
 -- why whole inputs make no such text: the first faulty record, of the airport file or else of the scenario file, what the

@@ -1,2 +1,2 @@
 mod RecordLemmas
-mod TextLemmas
+pub mod TextLemmas
