@@ -458,8 +458,9 @@ COMPARE
            another rule, cancelled, or unknown in the base plan
   - and +  if you name a scenario, each flight that it changes, by name: its
            line in the base plan, if it is known there, and its line in the
-           scenario. SLOT has the runway and the flight's line. If the scenario
-           is refused, its REFUSED line follows.
+           scenario. SLOT has the runway and the flight's line. If an update of
+           the scenario that you name is refused, there is no comparison, and
+           the status is 3.
 
 WHY
   cdmseq why airport.csv feed.csv AB1 prints:
@@ -486,6 +487,44 @@ WHY
   TSAT     its TSAT, TTOT and delay; or BLOCKED and the blocking rule; or
            OFFBLOCK and the AOBT, with TTOT, or AIRBORNE and the ATOT; or
            CANCELLED
+
+OPTIONS
+  options tries records that could help a planned flight: each alone, as a
+  scenario of this one update. If FEED also has NM,CTOT,AB1,2025-03-10T06:00Z,
+  cdmseq options airport.csv feed.csv AB1 prints:
+
+    DAY 2025-03-10 NOW 100000
+    FLIGHT AB1 BLOCKED CTOT CTOT 100600
+    OPTION          TTOT  GAIN  DELAY   MAX  LATE BLOCKED  MOVED
+    NM,CTOT,AB1,- 100615     -     +0    +0    +0      -1      1
+    TRIED 6 HELP 1 REFUSED 0
+
+  These records are tried:
+    PRIO   each smaller priority number, from 0
+    RWY    each other runway
+    CTOT   -, if the flight has a CTOT
+    OPEN   the minutes of each of the first 8 WAIT lines of why with CLOSURE,
+           up to 23:59 of the second day
+    RATE   one flight more in each of the first 16 cells in which a WAIT line
+           with RATE has a minute, unless the cell takes 60 flights or is the
+           last of the second day
+
+  FLIGHT   its TTOT, or BLOCKED and its blocking rule; then its CTOT
+  OPTION   each record that helps, with the role that may send it: the flight
+           gets a minute, or an earlier one. The first has the earliest TTOT,
+           then the fewest blocked flights, then the least total delay. If
+           several PRIO records give the same numbers, only the one with the
+           largest number is listed.
+  TTOT     the flight's TTOT with this record
+  GAIN     how many minutes earlier that is, - if the flight had no TTOT
+  DELAY    to BLOCKED: the change of each number of TOTAL
+  MOVED    how many flights change, as in COMPARE
+  TRIED    how many records were tried; HELP how many are listed; REFUSED how
+           many of those tried were refused, because the day has no room left
+  --role   tries only what this role may send: NM may send CTOT, and ATC the
+           others. For the other roles nothing is tried.
+  A flight that is off-block, airborne or cancelled has no options: the status
+  is 3.
 
 LOAD
   cdmseq load airport.csv feed.csv prints:
@@ -664,6 +703,9 @@ JSON
            scenario flight, before and after for each flight that it changes
   why      row (the flight's columns), ice (kind, minutes), now, waits (from,
            to, reason, cap, flights)
+  options  flight, now, ttot, rule, ctot, placed, delay, max, late, blocked,
+           tried, help, refused; then for each record that helps record, role,
+           ttot, gain, placed, delay, max, late, blocked, moved
   load     runway, cell, now, cells (from, placed, cap, closed, flights)
   trace    for each record that is refused or changes a column of a flight:
            record, reply, and word or accepted (how many updates there are) and
@@ -685,7 +727,8 @@ STATUS
   3  a file is longer than 8388608 bytes; a record of AIRPORT, NEXT_AIRPORT,
      SCENARIOS or JOURNAL is refused; FEED1 and FEED2 need more than 4096 calls;
      the flight, runway or scenario that you name is unknown, or that scenario
-     is refused; NEXT_AIRPORT isn't for the day after AIRPORT's
+     is refused, also by compare; the flight of options has left its stand or is
+     cancelled; NEXT_AIRPORT isn't for the day after AIRPORT's
   4  check found a refused record, or carry --tell a line LEFT, EARLIER or
      REFUSED; with --strict, FEED has a refused record or none at all
   For 1 and 3 standard error has the error in one line, as
