@@ -25,8 +25,8 @@ def free_port():
 
 
 @pytest.fixture
-def site(board):
-    """The board behind nginx, and how to ask it."""
+def site(board, request):
+    """The board behind nginx, and how to ask it. A parameter is what stands in the site in place of some of its words."""
     if NGINX is None:
         pytest.skip("test_proxy: nginx is missing")
     server, port = board(DESKS, options=["--behind-proxy", "--name", "cdm.example"]), free_port()
@@ -34,7 +34,8 @@ def site(board):
     certificates(folder)
     text = re.search(r"```nginx\n(.*?)```", (ROOT / "docs/RUN.md").read_text(), re.DOTALL)[1]
     for old, new in (("listen 443 ", f"listen 127.0.0.1:{port} "), ("127.0.0.1:8270", f"127.0.0.1:{server.port}"),
-                     ("/etc/ssl/cdm.example.pem", f"{folder}/one.crt"), ("/etc/ssl/private/cdm.example.key", f"{folder}/one.key")):
+                     ("/etc/ssl/cdm.example.pem", f"{folder}/one.crt"), ("/etc/ssl/private/cdm.example.key", f"{folder}/one.key"),
+                     *getattr(request, "param", {}).items()):
         assert old in text, old
         text = text.replace(old, new)
     (folder / "temp").mkdir()
@@ -83,6 +84,13 @@ def test_the_site_of_the_page(site):
     assert "10.6.6.6" not in site.server.told()
     assert site("/v1/what-if", b"A" * 66_000, "ap").status == 413
     assert site("/v1/plan.json", desk="ap", Accept_Encoding="gzip").status == 200
+
+
+@pytest.mark.parametrize("site", [{"rate=200r/s": "rate=1r/m", "burst=2000": "burst=20"}], indirect=True)
+def test_an_address_that_asks_too_often(site):
+    """What is beyond the rate and its burst gets 429 from the proxy, and the server never sees it. Here the rate is one a minute."""
+    answers = collections.Counter(site("/health").status for _ in range(30))
+    assert answers[200] in (21, 22) and answers[429] == 30 - answers[200]
 
 
 def test_four_pages_that_open_at_once(site):
