@@ -23,12 +23,23 @@ export function between(mine, others) {
     after: here.has(flight) ? here.get(flight).after : there.get(flight).before })).filter(({ before, after }) => entry(before) !== entry(after));
 }
 
+/** The comparison that names a scenario; the one that names none, where an update of that scenario is refused. Raises Problem. */
+async function planOr(path, body) {
+  const asked = { method: 'POST', body, accept: 'application/json' };
+  try {
+    return await objects(path, asked);
+  } catch (problem) {
+    if (!(problem instanceof Problem) || problem.status !== 422) throw problem;
+    return objects('/v1/compare', asked);
+  }
+}
+
 /**
  * The lines of all plans, and the flights that scenario `name` has otherwise than `base`, another scenario, or than the day where that is null; all
  * of one position. Raises Problem.
  */
 export async function comparison(body, name, base) {
-  const asked = (one) => objects(`/v1/compare/${one}`, { method: 'POST', body, accept: 'application/json' });
+  const asked = (one) => planOr(`/v1/compare/${one}`, body);
   const flightsOf = (list) => list.filter((one) => 'flight' in one);
   for (let again = 0; again < TRIES; again += 1) {
     const { list, position } = await asked(name);

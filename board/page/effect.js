@@ -24,18 +24,26 @@ export const signed = (value) => (value > 0 ? `+${value}` : value < 0 ? `−${-v
 export const counted = (count, word) => `${count} ${word}${count === 1 ? '' : 's'}`;
 
 /**
+ * What of a scenario file is refused, by its line, in the program's words, and whether the day refuses it; and of which record the day was.
+ * @param {string} body
+ * @returns {Promise<{found: {line: number, sentence: string, isOfDay: boolean}[], position: number}>} raises Problem
+ */
+async function checked(body) {
+  const { list, position } = await objects('/v1/check', { method: 'POST', body: body.replace(/\n?$/, '\n'), accept: 'application/json' });
+  const hint = /^line (\d+): update \d+ of \S+ is refused: [A-Z]+: (.*)$/;
+  const found = list.filter((one) => one.path === 'scenarios.csv').map(({ line, sentence, hint: said = '' }) => {
+    const [, at, words] = hint.exec(said) ?? [];
+    return line ? { line, sentence, isOfDay: false } : { line: Number(at ?? 0), sentence: words ?? said, isOfDay: at !== undefined };
+  });
+  return { found, position };
+}
+
+/**
  * What of a scenario file is refused, by its line, in the program's words.
  * @param {string} body
  * @returns {Promise<{line: number, sentence: string}[]>} raises Problem
  */
-export async function findings(body) {
-  const { list } = await objects('/v1/check', { method: 'POST', body: body.replace(/\n?$/, '\n'), accept: 'application/json' });
-  const hint = /^line (\d+): update \d+ of \S+ is refused: [A-Z]+: (.*)$/;
-  return list.filter((one) => one.path === 'scenarios.csv').map(({ line, sentence, hint: said = '' }) => {
-    const [, at, words] = hint.exec(said) ?? [];
-    return line ? { line, sentence } : { line: Number(at ?? 0), sentence: words ?? said };
-  });
-}
+export const findings = async (body) => (await checked(body)).found;
 
 /** What moves, in words; of a flight that the records are of, what becomes of it first. */
 function words({ list, flight, row, date }) {
@@ -125,19 +133,14 @@ export class Effect {
   }
 }
 
-/** What a body would do, in words, or why it would be refused; and of which record the day was. Raises Problem. */
+/** What a body would do, in words, or why it would be refused; and of which record the day was, if it is the day that says so. Raises Problem. */
 async function told(body, inWords) {
   try {
     const { list, position } = await objects(`/v1/compare/${NAME}`, { method: 'POST', body, accept: 'application/json' });
-    if (!list.some((one) => 'word' in one)) return { text: `Its effect: ${inWords(list)}.`, position };
-    return { text: await refused(body), position };
+    return { text: `Its effect: ${inWords(list)}.`, position };
   } catch (problem) {
     if (!(problem instanceof Problem) || problem.status !== 422) throw problem;
-    return { text: await refused(body), position: Infinity };
+    const { found: [first], position } = await checked(body);
+    return { text: `It would be refused: ${first ? first.sentence : 'the program says no more'}.`, position: first && !first.isOfDay ? Infinity : position };
   }
-}
-
-async function refused(body) {
-  const [first] = await findings(body);
-  return `It would be refused: ${first ? first.sentence : 'the program says no more'}.`;
 }

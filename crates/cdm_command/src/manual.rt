@@ -506,8 +506,8 @@ OPTIONS
     OPEN   the minutes of each of the first 8 WAIT lines of why with CLOSURE,
            up to 23:59 of the second day
     RATE   one flight more in each of the first 16 cells in which a WAIT line
-           with RATE has a minute, unless the cell takes 60 flights or is the
-           last of the second day
+           with RATE has a minute. A cell that takes 60 flights and the last
+           cell of the second day don't count.
 
   FLIGHT   its TTOT, or BLOCKED and its blocking rule; then its CTOT
   OPTION   each record that helps, with the role that may send it: the flight
@@ -726,9 +726,9 @@ STATUS
   2  usage error: a wrong command, option or argument
   3  a file is longer than 8388608 bytes; a record of AIRPORT, NEXT_AIRPORT,
      SCENARIOS or JOURNAL is refused; FEED1 and FEED2 need more than 4096 calls;
-     the flight, runway or scenario that you name is unknown, or that scenario
-     is refused, also by compare; the flight of options has left its stand or is
-     cancelled; NEXT_AIRPORT isn't for the day after AIRPORT's
+     the flight, runway or scenario that you name is unknown, or an update of
+     that scenario is refused; the flight that options is to help has left its
+     stand or is cancelled; NEXT_AIRPORT isn't for the day after AIRPORT's
   4  check found a refused record, or carry --tell a line LEFT, EARLIER or
      REFUSED; with --strict, FEED has a refused record or none at all
   For 1 and 3 standard error has the error in one line, as
