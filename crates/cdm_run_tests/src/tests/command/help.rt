@@ -17,7 +17,7 @@ ENDED |OFFBLOCK |ORDER |NOTREADY |FULL |TOBT     the|RUNWAY   it|EXOT     its|HO
 CTOT     it|CLOSURE  the|RATE     the|0  the complete|1  a file|2  usage error|3  a file|4  check|- reads|\
 FEED1 and FEED2|DESK     the|MOVED    how|scenario,flight,status,|WAIT     for|RATE     the cell|RUNWAY   each|\
 picture draws|two runs may print different texts|\
-\nPLAN\n|\nNEXT\n|\nWARNINGS\n|\nCAUSES\n|\nCOMPARE\n|\nWHY\n|\nLOAD\n|\nTRACE\n|\nPICTURE\n|\nLIVE\n|\nSERVE\n|\nCARRY\n|\nCHECK\n|\
+\nPLAN\n|\nNEXT\n|\nWARNINGS\n|\nCAUSES\n|\nCOMPARE\n|\nWHY\n|\nOPTIONS\n|\nLOAD\n|\nTRACE\n|\nPICTURE\n|\nLIVE\n|\nSERVE\n|\nCARRY\n|\nCHECK\n|\
 \nKINDS\n|\nJSON\n|\nSTATUS\n|\nTHE BOARD\n|OVERDUE  off-block|--since  lists|--by operator|take --format csv|\
 --day-at begins|--airport] [--day YYYY-MM-DD]";
 
@@ -36,6 +36,8 @@ const TRACE: &str = "Usage: cdmseq trace [OPTIONS] <AIRPORT> <FEED> [FLIGHT]";
 const COMPARE: &str = "Usage: cdmseq compare [OPTIONS] <AIRPORT> <FEED> <SCENARIOS> [NAME]";
 
 const WHY: &str = "Usage: cdmseq why [OPTIONS] <AIRPORT> <FEED> <FLIGHT>";
+
+const OPTIONS: &str = "Usage: cdmseq options [OPTIONS] <AIRPORT> <FEED> <FLIGHT>";
 
 const LOAD: &str = "Usage: cdmseq load [OPTIONS] <AIRPORT> <FEED> [RUNWAY]";
 
@@ -64,12 +66,12 @@ fn has_short_lines(text: &str) -> bool {
     text.lines().all(|line| line.len() <= 80)
 }
 
-// Whether it is a help of 28 lines at most with this usage and an example, which names the manual.
+// Whether it is a help of 29 lines at most with this usage and an example, which names the manual.
 fn is_help(text: &str, usage: &str) -> bool {
     text.contains(usage)
         && text.contains("\nExamples:\n  cdmseq ")
         && text.ends_with("Full manual: cdmseq help | less\n")
-        && text.lines().count() <= 28
+        && text.lines().count() <= 29
         && has_short_lines(text)
 }
 
@@ -80,7 +82,7 @@ fn prints_help(alloc: Global, words: &[&str], usage: &str) -> bool {
 
 #[test]
 fn help_of_a_command_is_a_screen(rt: HostRuntime) {
-    let table: [(&[&str], &str); 20] = [
+    let table: [(&[&str], &str); 21] = [
         (&["-h"], ALL),
         (&["--help"], ALL),
         (&["plan", "-h"], PLAN),
@@ -94,6 +96,7 @@ fn help_of_a_command_is_a_screen(rt: HostRuntime) {
         (&["help", "trace"], TRACE),
         (&["help", "compare"], COMPARE),
         (&["help", "why"], WHY),
+        (&["help", "options"], OPTIONS),
         (&["load", "--help"], LOAD),
         (&["help", "picture"], PICTURE),
         (&["help", "live"], LIVE),
