@@ -7,7 +7,8 @@ use crate::ending::Ending;
 use cdm_feed::{Device, Input};
 use std::marker::Model;
 
-/// A reader in a device, by the path at which it was opened, and as which input. Without a path it has no byte.
+/// A reader in a device, by the path at which it was opened, and as which input. That it has no byte without a path is to be read in
+/// `file_or_empty`.
 #[derive(Drop)]
 pub struct Named<'a, F> {
     path: Option<&'a str>,

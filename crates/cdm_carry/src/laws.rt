@@ -3,8 +3,9 @@ ghost use Rattle.std.specs.Prelude.{ℕ, List};
 ghost use Rattle.cdm_carry.specs.CarriedFeed.{HaveOneFeed};
 ghost use Rattle.cdm_carry.specs.Laws.{StaysTheSame};
 
-/// Of a flight that stays, the next day knows what the day knew: its priority, stand, runway, de-icing and group, and its
-/// TOBT, CTOT, AOBT and ATOT, each as a minute of the next day, or its first minute where it was before.
+/// Of a flight that stays, the records that are carried say what all records said, before the next airport refuses some: its
+/// priority, stand, runway, de-icing and group, and its TOBT, CTOT, AOBT and ATOT, each as a minute of the next day, or its first minute
+/// where it was before.
 pub fn flights_that_stay_are_the_same()
     ensures { StaysTheSame }
 {}
