@@ -27,10 +27,15 @@ TYPES = {"": "text/plain", "csv": "text/csv", "json": "application/x-ndjson", "s
 JSON = r"{form:(\.json)?}"
 PATHS = (r"{command:plan}{form:(\.csv|\.json)?}", r"{command:picture}{form:\.svg}", "{command:(load|next|warnings|causes)}" + JSON,
          "{command:load}/{name:[A-Z0-9]{1,3}}" + JSON, "{command:why}/{name:[A-Z0-9]{1,7}}" + JSON)
+# Only over the day as it is: each of its answers is of many what-ifs.
+BY_GET = ("{command:options}/{name:[A-Z0-9]{1,7}}" + JSON,)
 BY_POST = ("{command:what-if}", "{command:check}", "{command:compare}", "{command:compare}/{name:[A-Z0-9][A-Z0-9-]{0,15}}")
-OPTIONS: dict[str, tuple[str, ...]] = {"minutes": (), "by": ("--by",), "scenario": ("--scenario",)}
+# Arguments of a path, and the options of the program that they are. A role is one of `options` alone: other questions ignore it.
+ARGUMENTS: dict[str, tuple[str, ...]] = {"minutes": (), "by": ("--by",), "scenario": ("--scenario",)}
+OF_OPTIONS = {"role": ("--role",)}
 ARGUMENT = re.compile("[A-Za-z0-9][A-Za-z0-9-]{0,15}")
-UNKNOWN = ("cdmseq: no flight ", "cdmseq: no runway ", "cdmseq: no scenario ")
+# What the program says of what isn't there: also of a flight that isn't planned any more.
+UNKNOWN = re.compile("cdmseq: (no (flight|runway|scenario) |[A-Z0-9]{1,7} is (off-block|airborne|cancelled)$)")
 # What a run's status is over HTTP; 503 for any other.
 STATUSES = {2: 400, 3: 422, 422: 422, 500: 500, 504: 504}
 # Statuses of a run that is an answer. To `check` a refused record is one.
@@ -68,7 +73,7 @@ class Questions:
         """All paths."""
         return [web.get("/v1/records", self.get_records), web.get(r"/v1/records/{position:[0-9]{1,9}}/sentence", self.sentence),
                 web.get("/v1/kinds", self.file), web.get("/v1/airport.csv", self.file), web.get("/v1/journal.csv", self.journal),
-                *(web.get(f"/v1/{path}", self.question) for path in PATHS),
+                *(web.get(f"/v1/{path}", self.question) for path in (*PATHS, *BY_GET)),
                 *(web.post(f"/v1/{path}", self.question) for path in (*PATHS, *BY_POST))]
 
     async def get_records(self, request: web.Request) -> web.Response:
@@ -116,14 +121,14 @@ class Questions:
             forms = ("csv", "json") if command in ("plan", "compare") else ("json",)
             form = form or next((form for form in forms if form in request.headers.get("Accept", "")), "")
             words = ["scenarios.csv", *words] if command == "compare" else [*words, "--scenarios", "scenarios.csv"]
-        for name, option in OPTIONS.items():
+        for name, option in (OF_OPTIONS if command == "options" else ARGUMENTS).items():
             said = request.query.get(name, "0")
             refuse(not ARGUMENT.fullmatch(said), 400, f"{name} isn't well-formed")
             words += [*option, said] if name in request.query else []
         words += ["--format", form] if form in ("csv", "json") else []
         scenarios = await body_of(request) if is_post else None
         day, now, ran = await self._answered(request, Question(command, tuple(words), scenarios))
-        status = 404 if ran.told.startswith(UNKNOWN) else STATUSES.get(ran.status, 503)
+        status = 404 if UNKNOWN.match(ran.told) else STATUSES.get(ran.status, 503)
         again = {"Retry_After": "5"} if status == 503 else {}
         refuse(ran.status not in ANSWERED.get(command, (0,)), status, ran.told or "the program ended", None, **again)
         return await self.of_moment(request, now, form, ran.output, day)

@@ -2,6 +2,7 @@
 import { takesKind } from './columns.js';
 import { $, el, say, styled } from './dom.js';
 import { counted } from './effect.js';
+import { isHelpable } from './flight.js';
 import { turn, whenFree } from './hold.js';
 import { Problem, objects } from './net.js';
 import { hm, hms } from './times.js';
@@ -70,7 +71,7 @@ export class Act {
     const status = this.day.rows.get(flight)?.status;
     const kinds = status ? this.desk.kindsOf(flight).map((one) => one.kind).filter((kind) => takesKind(status, kind)) : [];
     const free = isAtCtot(first) ? this.free.get(flight) : null;
-    return { flight, kinds: group.map((one) => one.kind), since: this.since(group), words: all.map(({ means, act }) => `${means} ${act}`),
+    return { flight, isHelpable: isHelpable(this.day.rows.get(flight)), kinds: group.map((one) => one.kind), since: this.since(group), words: all.map(({ means, act }) => `${means} ${act}`),
       free: isAtCtot(first) && freeWords(free, date), buttons: all.flatMap(({ answers }) => answers).filter(({ kind }) => kinds.includes(kind))
         .filter(({ kind }, at, list) => list.findIndex((one) => one.kind === kind) === at) };
   }
@@ -82,9 +83,10 @@ export class Act {
     return `${Number.isFinite(since) ? `since ${hms(since).slice(0, 5)}` : 'since before this page was opened'}${why && `; moved last by ${why}`}`;
   }
 
-  itemOf({ flight, kinds, since, words, free, buttons }) {
+  itemOf({ flight, isHelpable: isAsked, kinds, since, words, free, buttons }) {
     return el('li', {}, el('b', { class: ACT.includes(kinds[0]) && 'act' }, kinds.join(' ')), ' ', flight && el('a', { href: `#${flight}`, 'data-of': flight }, flight), ' ', el('small', {}, since),
       ...words.map((text) => el('p', {}, text)), free && el('p', { class: 'free' }, free),
+      isAsked && el('p', {}, el('a', { href: `#${flight}`, 'data-helps': flight, 'data-of': `${flight} helps` }, 'What could help?', el('span', { class: 'vh' }, ` ${flight}`))),
       ...buttons.map(({ kind, time }) => {
         const at = time ? [hm(time, this.day.date)] : [];
         const button = el('button', { type: 'button', class: 'quiet', 'data-of': `${flight} ${kind}` }, `Put ${[kind, ...at].join(' ')} into the form`, el('span', { class: 'vh' }, ` of ${flight}`));

@@ -31,6 +31,7 @@ class Knowing {
     Object.assign(this, { isBroken: false, faults: 0, lostSince: null, hasStale: false }); // isBroken: a box has failed to show rows
     this.panel = { open: null, flight: null };
     this.causesOf = { isOpen: false, by: 'operator' };
+    this.isHelpAsked = false; // whether somebody waits for what could help the flight of the panel
   }
 
   order(order) {
@@ -146,7 +147,7 @@ export class Answers extends Knowing {
   takeList(ask, list, event) {
     const own = { who: () => this.takeWho(list[0]), kinds: () => this.takeKinds(list), plan: () => this.takePlan(list, event),
       history: () => this.takeHistory(list, event), between: () => this.takeBetween(list, event),
-      ahead: () => this.takeAhead(list, event) }[ask.name];
+      ahead: () => this.takeAhead(list, event), options: () => this.takeOptions(list, event) }[ask.name];
     if (own) return own();
     const question = this.questions.table.get(ask.name);
     if (!question.isWanted() || this.need) return true;
@@ -164,6 +165,22 @@ export class Answers extends Knowing {
     const isNow = event.position >= this.rows.position;
     if (ask.name === 'operators') this.takeOperators(isNow, event.position);
     return isNow;
+  }
+
+  /** It is shown of the moment of which it is, also where the rows are newer by now: nothing is asked again that nobody wants. */
+  takeOptions(list, { log, position, lastAt }) {
+    if (!this.isHelpAsked) return true;
+    this.isHelpAsked = false;
+    this.showAnswer('options', list, { log, position, lastAt });
+    return true;
+  }
+
+  /** Nobody waits for what could help any more. */
+  dropHelp() {
+    this.isHelpAsked = false;
+    this.had.delete('options');
+    this.abandonAll('options');
+    this.questions.drop('options');
   }
 
   takeKinds(list) {
@@ -187,6 +204,7 @@ export class Answers extends Knowing {
   }
 
   unanswered({ name }, detail) {
+    if (name === 'options') this.dropHelp();
     this.order({ do: 'say', what: 'unanswered', name, detail });
   }
 }

@@ -4,7 +4,14 @@ import { Sorted, whenFree } from './hold.js';
 import { Table, flag, write } from './columns.js';
 
 const CAUSES = ['delay', 'ice', 'ctot', 'closure', 'spacing', 'rate', 'now'];
-const PARTS = { flight: () => [el('a'), el('small')], rule: () => [el('b', { class: 'rule text' })] };
+const PARTS = { flight: () => [el('a'), el('small')], rule: () => [el('b', { class: 'rule text' }), ' ', el('a', { class: 'helps' })] };
+
+/** Makes a link one that opens a flight's panel and asks what could help it. */
+function helps(link, name) {
+  link.href = `#${name}`;
+  link.dataset.helps = name;
+  for (const attribute of ['aria-label', 'title']) link.setAttribute(attribute, `What could help ${name}?`);
+}
 
 export class Blocked {
   constructor(day, moves, filter) {
@@ -51,6 +58,7 @@ export class Blocked {
   make(name) {
     const item = this.table.make(name);
     item.since = $('small', item.cells.flight);
+    helps($('a', item.cells.rule), name);
     this.items.set(name, item);
     return item;
   }

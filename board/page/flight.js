@@ -10,6 +10,9 @@ const LATER = 10;
 const DRAWN = 180;
 const BEHIND = 30; // minutes that are drawn behind a window that has ended
 const LISTED = 12;
+/** Whether a flight is planned, and blocked or delayed: then something could help it. */
+export const isHelpable = (row) => row?.status === 'BLOCKED' || row?.status === 'PLANNED' && row.delay > 0;
+
 /** Why a flight that isn't planned any more doesn't wait, and what may still be sent of it. */
 const ENDED = {
   OFFBLOCK: 'It left its stand, and keeps its times. Of its records AIR alone is still taken.',
@@ -70,6 +73,7 @@ export class FlightPanel {
     const { date } = this.day;
     $('#f-unknown').hidden = Boolean(row) || !this.day.date;
     $('#f-known').hidden = !row;
+    $('#f-options').hidden = !isHelpable(row);
     if (!row) {
       say($('h2 small', this.root), '');
       return;

@@ -99,6 +99,7 @@ export class Following extends Reading {
     this.wantPanels();
     this.questions.want('operators', this.at + spread(START_WAIT, this.chance()));
     if (this.history) this.questions.want('history', this.at);
+    if (this.isHelpAsked) this.questions.want('options', this.at);
     if (!this.rows) this.questions.want('plan', this.at + OPENING); // if they don't say where they begin
   }
 

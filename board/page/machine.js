@@ -7,7 +7,8 @@ import { QUIET, OPENING, RECORD_DEADLINE, SOON, LOG } from './limits.js';
  * known, for words alone. `type` is the name of the method that takes it:
  * start; wake; opened {stream}; chunk {stream, text}; ended {stream, status, detail, retry}; answer {id, status, log, position, lastAt, text,
  * stale, retry, detail, isOwn}; heard {status, stale}: of a question that a box asked by itself; send {form, line, key};
- * signIn {desk, token}; signOut; role {role}; tab; panel {open, flight}; causes {isOpen, by}; seen {position}; fault {part, detail}.
+ * signIn {desk, token}; signOut; role {role}; tab; panel {open, flight}; causes {isOpen, by}; options {flight}; seen {position};
+ * fault {part, detail}.
  * What goes out: ask {id, name, path, method, body, accept, after, key, role}, abandon {id}, open {stream, since, role}, close {stream},
  * wait {until}, show {what, ..}, say {what, ..}, enable {why}, tell {word} (to other tabs).
  * @typedef {{type: string, at: number, now: number} & Record<string, any>} Incoming
@@ -50,6 +51,7 @@ export class Machine extends Following {
         path: () => `/v1/records?since=${this.stream.moment.position}`, after: () => this.stream.moment.position },
       { name: 'next', isOfDay: true, isWanted: isOn, path: () => '/v1/next.json' },
       { name: 'why', isOfDay: true, isWanted: () => isOn() && Boolean(flight()) && this.day.rows.has(flight()), path: () => `/v1/why/${flight()}.json` },
+      { name: 'options', isOfDay: true, isWanted: () => isOn() && this.isHelpAsked, path: () => `/v1/options/${flight()}.json` },
       { name: 'records', isOfDay: true, isWanted: () => isOn() && Boolean(flight()), path: () => `/v1/records?flight=${flight()}&day=${this.day.date}` },
       { name: 'totals', isOfDay: true, isWanted: isOn, path: () => '/v1/compare', method: 'POST', body: '', accept: 'application/json' },
       { name: 'warnings', isOfDay: true, isWanted: isOn, path: () => '/v1/warnings.json' },
@@ -105,10 +107,18 @@ export class Machine extends Following {
 
   onOpenPanel({ open, flight }) {
     this.panel = { open, flight };
+    this.dropHelp();
     for (const name of ['why', 'records', 'log']) {
       this.had.delete(name);
       this.questions.wantNow(name, this.at);
     }
+  }
+
+  /** What could help the flight of the panel: many what-ifs, which are asked once, as somebody wants them. */
+  onOptions({ flight }) {
+    if (this.panel.open !== 'flight' || this.panel.flight !== flight || this.questions.isAsked('options')) return;
+    this.isHelpAsked = true;
+    this.questions.wantNow('options', this.at);
   }
 
   onCauses({ isOpen, by }) {
@@ -155,6 +165,7 @@ export class Machine extends Following {
       this.had.delete(part);
       if (part === 'operators') this.operators = false;
       this.questions.failed(part, this.at, 0);
+      if (part === 'options') this.unanswered({ name: part }, 'it couldn’t be shown');
       return;
     }
     if (part !== 'rows') return;

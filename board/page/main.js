@@ -16,7 +16,7 @@ import { Panels } from './panels.js';
 import { enableForms } from './press.js';
 import { showRecords } from './records.js';
 import { openKeys, showAct, startState } from './state.js';
-import { hms } from './times.js';
+import { hm, hms, isTime } from './times.js';
 import { Warnings } from './warnings.js';
 
 const FEW = 100; // so many rows are made at once
@@ -56,6 +56,8 @@ let taken = null; // when the last event is
 let began = 0; // this task
 let making = null; // while rows are made that aren't shown yet
 let unsent = null; // what was sent last, if it isn't known to be taken
+let sendForm = null; // the form of records that are of no flight
+let options = null; // what could help the flight of the panel, once somebody has asked
 
 const sendPanel = {
   open() {
@@ -103,13 +105,42 @@ function propose(name, kind, ...values) {
   panels.go(name);
 }
 
+/** Puts a record into the form that sends it, as a proposal: its flight's, or that of records that are of no flight. */
+function fill(line) {
+  const [kind, first, ...more] = line.split(',').map((value) => (isTime(value) ? hm(value, day.date) : value));
+  if (first === flight.name) {
+    flight.form?.propose(kind, ...more);
+    return;
+  }
+  addEventListener('hashchange', () => give(() => sendForm?.propose(kind, first, ...more)), { once: true });
+  panels.go('send');
+}
+
+/** Asks what could help the flight of the panel. */
+async function askOptions(name) {
+  const { Options } = await needed('options');
+  options ??= new Options({ day, desk, fill, onAsk: (one) => give({ type: 'options', flight: one }) });
+  options.ask(name);
+}
+
+$('#b-options').addEventListener('click', () => askOptions(flight.name));
+// A link to a flight that asks for it too.
+document.addEventListener('click', (event) => {
+  const name = event.target.closest?.('[data-helps]')?.dataset.helps;
+  if (!name || event.ctrlKey || event.metaKey || event.shiftKey) return;
+  if (panels.flight === name) askOptions(name);
+  else addEventListener('hashchange', () => give(() => { askOptions(name); }), { once: true });
+});
+
 const panels = new Panels({
   flight: {
     open(name) {
+      options?.clear();
       flight.open(name);
       give({ type: 'openPanel', open: 'flight', flight: name });
     },
     close() {
+      options?.clear();
       flight.close();
       closed();
     } },
@@ -122,14 +153,15 @@ function closed() {
 /** The form of records that are of no flight. */
 function makeForm() {
   const kinds = desk.mayAll ?? [];
-  const form = kinds.length && new desk.Form(kinds, { flight: null, row: null, day, runways, onSend: send, toScenario: desk.toScenario, label: 'One record' });
-  $('#s-form').replaceChildren(...(form ? [form.root] : []));
+  sendForm = kinds.length ? new desk.Form(kinds, { flight: null, row: null, day, runways, onSend: send, toScenario: desk.toScenario, label: 'One record' }) : null;
+  $('#s-form').replaceChildren(...(sendForm ? [sendForm.root] : []));
   say($('#p-send h2 small'), `as ${desk.words}`);
 }
 
 /** What the desk that speaks may do beside its forms. */
 function offered() {
   toDo.made?.then((one) => one.changed());
+  options?.changed();
   if (closings) bands.offerAll((runway, root) => closings.buttonOf(runway, root));
 }
 
@@ -317,6 +349,7 @@ const ANSWERED = {
   next: (list, position) => next.take(list, position),
   why: (list) => flight.takeWhy(list),
   records: (list) => flight.takeRecords(list),
+  options: (list, position) => options.take(list, position),
   warnings(list, position) {
     head.warnings(warnings.take(list), position);
     all.counts();
@@ -358,6 +391,8 @@ function fault(name, detail) {
     say($(place), detail ? `no answer: ${detail}` : usual);
   } else if (detail && name === 'why') {
     flight.failed({ message: detail });
+  } else if (detail && name === 'options') {
+    options?.failed(detail);
   } else if (detail && name === 'records') {
     say($('#f-count'), `no answer: ${detail}`);
   }
@@ -424,6 +459,7 @@ function write() {
   mine?.show();
   panels.mark();
   desk.movedOn?.();
+  options?.movedOn();
   root.classList.remove('is-new');
   if (newest) head.record(...newest);
   newest = null;
@@ -460,6 +496,7 @@ function empty() {
 
 /** What was told of a day that has ended. */
 function past() {
+  options?.clear();
   for (const body of $$('#s-records, #f-records')) body.replaceChildren();
   say($('#f-count'), '');
   $('#day').hidePopover();

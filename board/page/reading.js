@@ -114,6 +114,7 @@ export class Reading extends Views {
 
   /** What is of a day as a whole begins anew: what panels list of it, its operators, and how many records a desk may send. */
   beginDay() {
+    this.dropHelp();
     this.forgetOperators();
     this.order({ do: 'show', what: 'past' });
     if (this.who?.kinds.length) this.questions.want('who', this.at + this.chance() * SOON);

@@ -20,6 +20,9 @@ export function hm(time, day) {
   return time.startsWith(day) ? minute : `${time.slice(8, 10)} ${minute}`;
 }
 
+/** Whether a text is a time as the program writes it. */
+export const isTime = (text) => /^\d{4}-\d\d-\d\dT\d\d:\d\dZ$/.test(text);
+
 /** Hour, minute and second of a moment of the server's clock. */
 export const hms = (at) => (typeof at === 'string' ? at : new Date(at).toISOString()).slice(11, 19);
 

@@ -2,13 +2,12 @@
 import { $, el } from './dom.js';
 import { turn, whenFree } from './hold.js';
 import { clock } from './net.js';
-import { hm } from './times.js';
+import { hm, isTime } from './times.js';
 
 const MOST = 8;
 const FEW = 3; // so many are said one by one
 const NEW = 60000;
 const LABEL = /\b([A-Z]{4}) (?=\d)/g; // it stays with its time
-const TIME = /^\d{4}-\d\d-\d\dT\d\d:\d\dZ$/;
 const AGING = NEW / 4; // how often it is looked which are still new
 /** Red, to be acted on now: flights that are at their stand, and have no minute though somebody expects one of them. */
 export const ACT = ['BLOCKED'];
@@ -57,7 +56,7 @@ const KINDS = {
     act: 'Hold it, or open the runway (OPEN). If it has taken off, send AIR with its take-off time.' },
 };
 /** A kind that this page doesn't know is drawn with what it says of itself. */
-const OTHER = { facts: ({ kind, flight, ...more }, at) => Object.values(more).filter((value) => value != null).map((value) => (TIME.test(value) ? at(value) : value)).join(' '),
+const OTHER = { facts: ({ kind, flight, ...more }, at) => Object.values(more).filter((value) => value != null).map((value) => (isTime(value) ? at(value) : value)).join(' '),
   answers: [],
   means: (one) => `The program warns of ${one.kind}.`, act: 'The program’s manual says what it means.' };
 

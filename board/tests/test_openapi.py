@@ -27,7 +27,9 @@ SAID = re.compile("Cdm-.*|ETag|Vary|Retry-After|WWW-Authenticate|Set-Cookie|Allo
 PLAIN = ("/v1/plan", "/v1/plan.csv", "/v1/plan.json", "/v1/picture.svg", "/v1/load", "/v1/load.json", "/v1/load/{runway}",
          "/v1/load/{runway}.json", "/v1/next", "/v1/next.json", "/v1/warnings", "/v1/warnings.json", "/v1/causes", "/v1/causes.json",
          "/v1/why/{flight}", "/v1/why/{flight}.json")
-OTHERS = ("/v1/records", "/v1/records/{position}/sentence", "/v1/kinds", "/v1/airport.csv", "/v1/journal.csv", "/v1/who", "/health", "/ready",
+# Over the day alone, as each answer is of many what-ifs.
+OF_DAY = ("/v1/options/{flight}", "/v1/options/{flight}.json")
+OTHERS = (*OF_DAY, "/v1/records", "/v1/records/{position}/sentence", "/v1/kinds", "/v1/airport.csv", "/v1/journal.csv", "/v1/who", "/health", "/ready",
           "/metrics", "/", "/page-{digest}/{file}", "/v1/day", "/v1/day.json")
 NAMES = {"runway": "27L", "flight": "AB1", "name": "SHUT", "position": "4", "file": "main.js"}
 
@@ -145,6 +147,9 @@ def test_the_file_has_what_is_read(server):
     for query in ("?minutes=30", "?minutes=no!"):
         asked(server, "GET", "/v1/next", 400 if "!" in query else 200, query)
     asked(server, "GET", "/v1/causes.json", 200, "?by=operator")
+    for path in OF_DAY:
+        for role in ("AO", "ATC", "READ"):
+            asked(server, "GET", path, 400 if role == "READ" else 200, f"?role={role}")
 
 
 def test_the_file_has_records(server):
@@ -170,7 +175,7 @@ def test_the_file_has_changes_of_day(server):
                                       (403, "", "", "ap"), (401, "", "", "nobody"), (413, "", "A" * 65_537, "tower"),
                                       (200, "?even=yes&day=2025-03-11", "", "tower"), (200, "?day=2025-03-11", "", "tower")):
         asked(server, "POST", "/v1/day", status, query, body, desk)
-    for path in (*PLAIN, "/v1/records", "/v1/journal.csv"):
+    for path in (*PLAIN, *OF_DAY, "/v1/records", "/v1/journal.csv"):
         assert asked(server, "GET", path, 200, "?day=2025-03-10").body
     for path in ("/v1/plan", "/v1/records", "/v1/journal.csv"):
         asked(server, "GET", path, 404, "?day=2025-03-09")
@@ -179,7 +184,7 @@ def test_the_file_has_changes_of_day(server):
 
 def test_the_file_has_what_is_not_there(server):
     """404, 422, and a position that doesn't come."""
-    for path, names, status in (("/v1/why/{flight}", {"flight": "NIX"}, 404), ("/v1/load/{runway}", {"runway": "01X"}, 404),
+    for path, names, status in (("/v1/why/{flight}", {"flight": "NIX"}, 404), ("/v1/options/{flight}.json", {"flight": "NIX"}, 404), ("/v1/load/{runway}", {"runway": "01X"}, 404),
                                 ("/v1/records/{position}/sentence", {"position": "1"}, 404), ("/page-{digest}/{file}", {"file": "no.js"}, 404)):
         with mock.patch.dict(NAMES, names):
             asked(server, "GET", path, status)

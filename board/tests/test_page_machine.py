@@ -99,6 +99,20 @@ FAULTS = [
     ("a question of who spoke before signs out who speaks now", "Alive", 6982, [
         ("machine.js", "    if (status === 401 && this.who) this.questions.wantNow('who', this.at);\n",
          "    if (status === 401) this.signedOut('a token of a desk is needed');\n")]),
+    ("what could help a flight is shown in the panel of another one", "Shown", "220 --helped", [
+        ("machine.js", "    this.panel = { open, flight };\n    this.dropHelp();\n", "    this.panel = { open, flight };\n")]),
+    ("what could help isn't asked after the connection was opened again", "Arrives", "3 --helped", [
+        ("following.js", "    if (this.isHelpAsked) this.questions.want('options', this.at);\n", "")]),
+    ("what could help is asked again by itself where it has no answer", "Heeded", "32 --helped", [
+        ("answers.js", "    if (name === 'options') this.dropHelp();\n", "")]),
+    ("what could help is asked again by itself once it is shown", "Heeded", "28 --helped", [
+        ("answers.js", "    this.isHelpAsked = false;\n    this.showAnswer(", "    this.showAnswer(")]),
+    ("what could help in the day before is asked in the next one", "Heeded", "5 --helped", [
+        ("reading.js", "    this.dropHelp();\n", "")]),
+    ("who waits for what could help isn't told that it couldn't be shown", "Arrives", "14457 --helped", [
+        ("machine.js", "      if (part === 'options') this.unanswered({ name: part }, 'it couldn’t be shown');\n", "")]),
+    ("what could help is said to be of the moment of the rows", "Shown", "5 --helped", [
+        ("answers.js", "{ log, position, lastAt });\n    return true;", "{ log, position: this.rows.position, lastAt });\n    return true;")]),
 ]
 
 
@@ -131,6 +145,11 @@ def test_no_schedule_breaks_a_law():
     found = re.search(r"(\d+) schedules, (\d+) steps, ([\d.]+) s of a processor: (\d+) broke a law$", said.rstrip())
     assert status == 0 and found, said
     assert int(found[1]) == SCHEDULES and int(found[2]) > 50 * SCHEDULES and int(found[4]) == 0
+
+
+def test_no_schedule_in_which_somebody_asks_what_could_help_breaks_a_law():
+    status, said = simulated("--helped", "--schedules", str(SCHEDULES // 10), "--seed", "1")
+    assert status == 0 and re.search(rf"^{SCHEDULES // 10} schedules, .*: 0 broke a law$", said.rstrip()), said
 
 
 @pytest.mark.parametrize(("law", "seed", "edits"), [words[1:] for words in FAULTS], ids=[words[0] for words in FAULTS])

@@ -15,11 +15,23 @@ export class Broken extends Error {
 export class Judge {
   constructor(world, machine) {
     Object.assign(this, { world, machine, rows: new Map(), date: '', who: null, totals: null, isTotalsOld: false, state: null, since: null, boxes: new Map(), clocks: new Set(), stale: null });
+    Object.assign(this, { panel: null, isHelpWanted: false }); // the flight of the panel, and whether somebody waits for what could help it
     Object.assign(this, { sends: new Map(), notTaken: [], faultyUntil: 0, firstShown: null, isDirty: false });
+  }
+
+  /** What somebody does: who asks what could help a flight waits until that is told, or until the panel is another one. */
+  hear({ type, open, flight }) {
+    if (type === 'openPanel') {
+      this.isHelpWanted = false;
+      this.panel = open === 'flight' ? flight : null;
+      this.boxes.delete('options');
+    }
+    if (type === 'options') this.isHelpWanted ||= flight === this.panel;
   }
 
   /** One order of the machine, as a screen carries it out. */
   see(order) {
+    if (order.do === 'ask' && order.name === 'options' && !this.isHelpWanted) throw new Broken('Heeded', 'what could help is asked, and nobody wants it');
     if (order.do === 'ask' || order.do === 'open') this.heeds(order.name ?? 'events');
     if (order.do === 'show') this.show(order);
     if (order.do === 'say') this.say(order);
@@ -40,10 +52,20 @@ export class Judge {
     }
     if (order.what === 'who') this.who = order.who;
     if (order.what === 'empty') this.boxes.clear();
-    if (order.what === 'past') for (const name of OF_A_DAY) this.boxes.delete(name);
+    if (order.what === 'past') for (const name of [...OF_A_DAY, 'options']) this.boxes.delete(name);
+    if (order.what === 'past') this.isHelpWanted = false;
+    if (order.what === 'answer' && order.name === 'options') this.helped(order);
     if (order.what === 'history') for (const reply of order.list) if (isClock(reply)) this.clocks.add(`${machine.rows.log} ${reply.at}`);
     if (order.what === 'totals') Object.assign(this, { totals: order.totals, isTotalsOld: order.isOld, isDirty: true });
     if (order.what === 'answer') this.boxes.set(order.name, { list: order.list, log: machine.rows.log });
+  }
+
+  /** What could help is of the flight that somebody asked about, and of the moment that is said. */
+  helped({ list: [{ of, flight }], position }) {
+    const { log } = this.machine.rows;
+    if (!this.isHelpWanted || flight !== this.panel) throw new Broken('Shown', `what could help ${flight} is shown, and the panel is of ${this.panel}`);
+    if (!this.pasts({ log, position }).some(({ stamp }) => of === `${log}/${stamp}`)) throw new Broken('Shown', `what could help is of ${of}, and is said to be of ${log}-${position}`);
+    this.isHelpWanted = false;
   }
 
   put(changed) {
@@ -56,6 +78,7 @@ export class Judge {
   say(order) {
     if (order.what === 'state') Object.assign(this, { state: order.state, since: order.since });
     if (order.what === 'stale') this.stale = order.since;
+    if (order.what === 'unanswered' && order.name === 'options') this.isHelpWanted = false;
     if (order.what === 'sent') this.outcome(order);
     if (order.what === 'fault' && order.part === 'events') throw new Broken('Alive', `an event wasn't taken: ${order.detail}`);
   }
@@ -175,6 +198,7 @@ export class Judge {
     const shown = `${machine.rows.log}: ${this.stamps()}`;
     if (shown !== truth) throw new Broken('Arrives', `shown is ${shown}, the day is ${truth}`);
     if (this.date !== world.log.states.at(-1).date || this.machine.day.now !== nowOf(world.log.states.at(-1))) throw new Broken('Arrives', `the date or NOW is another one`);
+    if (this.isHelpWanted) throw new Broken('Arrives', 'somebody waits for what could help, and nothing is told');
     this.checkBoxes();
     this.checkDay();
     this.checkClock();

@@ -1,6 +1,7 @@
 // Drives the page's own machine through schedules drawn by a seed, against a model of servers, and holds it to its laws.
-//   node board/tests/simulator/page.mjs [--schedules N] [--seed N] [--page FOLDER] [--told] [--until LAW] [--replaced]
-// By --until the first schedule that breaks this law is the last one. By --replaced they are those of a record that is lost and replaced.
+//   node board/tests/simulator/page.mjs [--schedules N] [--seed N] [--page FOLDER] [--told] [--until LAW] [--replaced | --helped]
+// By --until the first schedule that breaks this law is the last one. By --replaced they are those of a record that is lost and replaced, by
+// --helped those in which somebody also asks what could help a flight.
 // The last line says how many schedules were run and how many broke a law; before it, of each that did, its seed, the law and why.
 import { resolve } from 'node:path';
 import { fileURLToPath, pathToFileURL } from 'node:url';
@@ -78,6 +79,7 @@ class Schedule {
     if (this.isTold) console.log(Math.round(world.at), '>', JSON.stringify({ ...event, at: undefined, now: undefined }).slice(0, 300));
     event.at = world.at;
     event.now = world.now;
+    this.judge.hear(event);
     const orders = this.machine.take(event);
     const faults = [];
     for (const order of orders) {
@@ -141,6 +143,17 @@ class Schedule {
   }
 }
 
+/** A schedule in which somebody also asks what could help a flight, whose panel is opened for that if it isn't. */
+class Helped extends Schedule {
+  clicks() {
+    super.clicks();
+    const { chance, machine: { panel } } = this;
+    if (chance.is(0.3)) return;
+    if (panel.open !== 'flight' || chance.is(0.2)) this.give({ type: 'openPanel', open: 'flight', flight: chance.of(['AB1', 'AB2']) });
+    this.give({ type: 'options', flight: this.machine.panel.flight });
+  }
+}
+
 /**
  * A schedule that is hardly ever drawn. Totals came of a refused record, of which the events say nothing; they wait for the word that nothing
  * came between. Then the log loses that record, and takes another refused one in its place, before the server of the events has heard of
@@ -197,7 +210,7 @@ export async function run({ Kind = Schedule, folder, schedules, seed, until, isT
 const words = process.argv.slice(2);
 const said = (name, otherwise) => (words.includes(`--${name}`) ? words[words.indexOf(`--${name}`) + 1] : otherwise);
 const schedules = Number(said('schedules', 50000));
-const Kind = words.includes('--replaced') ? Replaced : Schedule;
+const Kind = words.includes('--replaced') ? Replaced : words.includes('--helped') ? Helped : Schedule;
 const { failed, steps, seconds } = await run({ Kind, folder: said('page', resolve(HERE, '../../page')), schedules, seed: Number(said('seed', 1)), until: said('until'), isTold: words.includes('--told') });
 for (const { seed, law, why } of said('until') ? failed.slice(-1) : failed.slice(0, MOST_TOLD)) console.log(`seed ${seed} breaks ${law}: ${why}`);
 const laws = [...new Set(failed.map((one) => one.law))].map((law) => `${failed.filter((one) => one.law === law).length} ${law}`);

@@ -199,7 +199,8 @@ export class Server {
     if (path === '/v1/compare') return `{"scenario":null,${totalsText(id, this.state)}`;
     const [, date] = path.split('&day=');
     const state = date === undefined ? this.state : this.states.findLast((one) => one.date === date);
-    return state ? `{"of":"${id}/${state.stamp}","date":"${state.date}"}` : null;
+    const [, flight] = /^\/v1\/options\/(\w+)/.exec(path) ?? [];
+    return state ? `{"of":"${id}/${state.stamp}","date":"${state.date}"${flight ? `,"flight":"${flight}"` : ''}}` : null;
   }
 }
 

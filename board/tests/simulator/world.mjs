@@ -397,7 +397,7 @@ export class World {
     if (method === 'GET' && ask.after > server.has) return failed(503, 'this position isn’t here yet', OWN, 1);
     if (path === '/v1/who') return this.found(server, [this.who(ask, cookie, server)], false);
     if (path === '/v1/kinds') return this.found(server, [{ kind: 'TOBT' }], false);
-    if (path.startsWith('/v1/why/') && this.chance.is(0.05)) return failed(404, 'no flight', OWN);
+    if (/^\/v1\/(why|options)\//.test(path) && this.chance.is(0.05)) return failed(404, 'no flight', OWN);
     const since = /^\/v1\/records\?since=(\d+)(?:&day=(.+))?$/.exec(path);
     const text = since ? server.found(Number(since[1]), since[2], ask.name === 'history' ? FOUND : Infinity) : server.text(path);
     return text === null ? failed(404, 'the log has no such day', OWN) : this.found(server, text, true);

@@ -44,7 +44,7 @@ abbrev pub ctots_tried : Flight → List Update
 ctots_tried f = option_map_or (λ c. ctot_tried f ∷ []) f.ctot []
 
 -- OPEN: each of the first 8 runs of minutes at which the runway is closed. A window ends at the horizon's last minute at the latest,
--- so that a feed can name its end.
+-- since the times of a record that is written are minutes of the horizon.
 abbrev pub is_closure : Reason → Bool
 is_closure reason.Closure = true
 is_closure _ = false
