@@ -1,5 +1,5 @@
 -- The inputs that are opened for a run, and what the run makes of what they give.
-use Rattle.std.specs.Prelude.{◌≡◌, ⊤, ℕ, Bool, false, List, [], Option, Some}
+use Rattle.std.specs.Prelude.{◌≡◌, ℕ, Bool, false, List, [], Option, Some}
 use Rattle.std.specs.Option.{option_copied}
 use Rattle.cdm_files.specs.declared.common_fault.Input.{Input}
 use Rattle.cdm_files.specs.declared.common_fault.Input.TheVariants.{Airport, Feed}
@@ -8,8 +8,6 @@ use Rattle.cdm_feed.specs.Made.{HaveOne, IsMade}
 use Rattle.cdm_feed.specs.declared.asked.Asked.{Asked}
 use Rattle.cdm_feed.specs.declared.counted.Counted.{Counted}
 use Rattle.cdm_command.specs.declared.command.DayFiles.{DayFiles}
-use Rattle.cdm_fault.specs.declared.fault.Fault.{Fault}
-use Rattle.cdm_fault.specs.declared.fault.Fault.TheVariants as fault
 
 -- what was opened at a path, or is empty where there is none: as which input, whether a read of it failed, and the bytes that its reads gave
 pub record OpenedFile : Type 0 where
@@ -38,8 +36,3 @@ pub record IsMadeOf (asked : Asked) (airport feed third : OpenedFile) (counted :
   pub is_written : IsWritten text
   pub is_made : IsMade asked airport.given feed.given third.given text counted
   pub is_one : HaveOne asked airport.given feed.given third.given
-
--- it is a fault of serving
-abbrev pub IsServeStop : Fault → Type 0
-IsServeStop (fault.Serve error) = ⊤
-IsServeStop other = ⊥

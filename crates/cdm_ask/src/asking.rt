@@ -1,9 +1,10 @@
 //! What is asked of the files of a day is made of what they give.
-ghost use Rattle.std.specs.Prelude.{◌≡◌, false, IfOk, OnErr};
+ghost use Rattle.std.specs.Prelude.{◌≡◌, false, IfErr, IfOk, OnErr};
 ghost use Rattle.cdm_files.specs.Device.{Passes};
 ghost use Rattle.cdm_files.specs.RunFaults.{is_write_fault};
 ghost use Rattle.cdm_fault.specs.Statuses.{status_of_run};
 ghost use Rattle.cdm_ask.specs.Opening.{AreOpened, IsMadeOf};
+ghost use Rattle.cdm_ask.specs.Stops.{IsStoppedBy, IsUnopenedOf};
 
 use crate::job::Question;
 use crate::named::Named;
@@ -55,6 +56,10 @@ pub fn answer_of<'a, R: AllocGlobal + Files + io::Input + Threads + Sync, W: Wri
         IsMadeOf question.now.asked answer.airport answer.feed answer.third ended.counted (Passes out.old out.new))) }
     ensures status { IfOk result (λ answer. IfOk answer.ended (λ ended.
         ended.status ≡ status_of_run question.now.is_strict ended.counted)) }
+
+    // What stopped it is a fault of a file, or what the bytes that the files gave say, or want of memory.
+    ensures stopped { IfOk result (λ answer. IfErr answer.ended (IsStoppedBy question.now.asked answer.airport answer.feed answer.third)) }
+    ensures fault { IfErr result (IsUnopenedOf question.now.asked) }
     ensures unopened { OnErr result (out.new ≡ out.old) }
     ensures unmade { IfOk result (λ answer. OnErr answer.ended (is_write_fault answer.ended ≡ false → out.new ≡ out.old)) }
 {

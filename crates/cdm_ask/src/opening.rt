@@ -1,7 +1,8 @@
 //! The files that the words name.
-ghost use Rattle.std.specs.Prelude.{◌≡◌, IfOk, Some};
+ghost use Rattle.std.specs.Prelude.{◌≡◌, IfErr, IfOk, Some};
 ghost use Rattle.std.specs.Option.{option_copied};
 ghost use Rattle.cdm_ask.specs.Opening.{unread};
+ghost use Rattle.cdm_ask.specs.Stops.{IsUnopened};
 
 use crate::named::Named;
 use cdm_command::{DayFiles, STANDARD_INPUT};
@@ -30,7 +31,8 @@ pub fn open<'a, R: AllocGlobal + Files + io::Input>(
     path: &'a str,
     input: Input,
 ) -> Result<Named<'a, Opened<R>>, Fault>
-    ensures { IfOk result (λ file. file ≡ unread (Some path.now) input) }
+    ensures opened { IfOk result (λ file. file ≡ unread (Some path.now) input) }
+    ensures fault { IfErr result (IsUnopened input) }
 {
     let file = open_file(rt, path, input)?;
     Ok(Named::new(Some(path), input, file))
@@ -42,7 +44,8 @@ pub fn open_named<'a, R: AllocGlobal + Files + io::Input>(
     path: Option<&'a str>,
     input: Input,
 ) -> Result<Named<'a, OpenedOrEmpty<R>>, Fault>
-    ensures { IfOk result (λ file. file ≡ unread (option_copied path.entry) input) }
+    ensures opened { IfOk result (λ file. file ≡ unread (option_copied path.entry) input) }
+    ensures fault { IfErr result (IsUnopened input) }
 {
     let file = file_or_empty(rt, path, input)?;
     Ok(Named::new(path, input, file))
@@ -53,7 +56,9 @@ fn file_or_empty<R: AllocGlobal + Files + io::Input>(
     rt: &R,
     path: Option<&str>,
     input: Input,
-) -> Result<OpenedOrEmpty<R>, Fault> {
+) -> Result<OpenedOrEmpty<R>, Fault>
+    ensures { IfErr result (IsUnopened input) }
+{
     match path {
         Some(path) => Ok(Either::Left(open_file(rt, path, input)?)),
         None => Ok(Either::Right(&[])),
@@ -65,7 +70,9 @@ fn open_file<R: AllocGlobal + Files + io::Input>(
     rt: &R,
     path: &str,
     input: Input,
-) -> Result<Opened<R>, Fault> {
+) -> Result<Opened<R>, Fault>
+    ensures { IfErr result (IsUnopened input) }
+{
     if path == STANDARD_INPUT {
         let Ok(reader) = Box::new(rt.alloc(), rt.reader()) else {
             return Err(Fault::NoMemory);

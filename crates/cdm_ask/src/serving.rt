@@ -1,9 +1,10 @@
 //! How a served day ends.
-ghost use Rattle.std.specs.Prelude.{◌≡◌, ℕ, List, IfErr, IfOk, OnOk};
+ghost use Rattle.std.specs.Prelude.{◌≡◌, ◌++◌, ℕ, List, IfErr, IfOk, OnOk};
 ghost use Rattle.cdm_port.specs.Event.Event.{End};
 ghost use Rattle.cdm_port.specs.Stop.{since};
-ghost use Rattle.cdm_serve.specs.Served.{IsServed};
-ghost use Rattle.cdm_ask.specs.Opening.{IsServeStop};
+ghost use Rattle.cdm_serve.specs.Promises.{AtEachMoment, IsKept};
+ghost use Rattle.cdm_serve.specs.Served.{IsServed, IsStopped};
+ghost use Rattle.cdm_ask.specs.Stops.{IsServeStop};
 
 use cdm_day::Airport;
 use cdm_fault::Fault;
@@ -21,9 +22,14 @@ pub fn served<R: Threads + Sync, P: Port>(
     format: Format,
     port: &mut P,
 ) -> Result<u8, Fault>
+    // What a served day promises holds of this call: what has happened stays, the replies are those of the lines, where it stopped it had done
+    // the first part of that, and a start goes on from there.
+    ensures log { P.events port.new ≡ P.events port.old ++ since (P.events port.old) (P.events port.new) }
     ensures served { OnOk result ((bytes : List ℕ) × IsServed format airport (P.marked port.old) bytes End (since (P.events port.old) (P.events port.new))) }
+    ensures stopped { IsStopped format airport (P.marked port.old) (since (P.events port.old) (P.events port.new)) }
+    ensures kept { AtEachMoment (since (P.events port.old) (P.events port.new)) (IsKept airport (P.marked port.old)) }
     ensures status { IfOk result (λ status. status ≡ 0) }
-    ensures fault { IfErr result IsServeStop }
+    ensures fault { IfErr result (IsServeStop airport (P.marked port.old) (since (P.events port.old) (P.events port.new))) }
 {
     match serve(rt, alloc, airport, format, port) {
         Ok(()) => Ok(0),
