@@ -46,16 +46,16 @@ def cost(one, now):
     return f"In all: {', '.join(words)}; {one['moved']} {'flight moves' if one['moved'] == 1 else 'flights move'}."
 
 
-def is_answered(shown, words):
-    shown.click("#b-options")
-    shown.says("#o-head", words)
-
-
-def is_pressed(shown, at):
-    """The button of a record, in a part of the panel that is in sight."""
-    button = f"#f-options li:nth-child({at}) button"
+def is_pressed(shown, button):
+    """A button of the panel, in a part of it that is in sight."""
+    shown.until("return document.querySelector(arguments[0])?.getClientRects().length > 0", button)
     shown.js("document.querySelector(arguments[0]).scrollIntoView({block: 'center'})", button)
     shown.click(button)
+
+
+def is_answered(shown, words):
+    is_pressed(shown, "#b-options")
+    shown.says("#o-head", words)
 
 
 def test_what_could_help_a_blocked_flight(sixty):
@@ -83,14 +83,14 @@ def test_a_press_fills_the_form_and_sends_nothing(sixty):
     is_answered(shown, "5 of 9")
     assert shown.text("#p-flight form code") == "RWY,DLH20T,25C"
     for at, line in ((1, "RWY,DLH20T,18"), (3, "PRIO,DLH20T,4")):
-        is_pressed(shown, at)
+        is_pressed(shown, f"#f-options li:nth-child({at}) button")
         shown.says("#p-flight form code", line)
         assert shown.js("return document.activeElement === document.querySelector('#p-flight form .sends')")
     for at, line in ((2, "OPEN,25C,2026-01-15T06:55Z,2026-01-15T07:00Z"), (4, "RATE,25C,2026-01-15T07:00Z,2026-01-15T07:10Z,4")):
         shown.js("location.hash = '#DLH20T'")
         shown.until("return document.querySelector('#p-flight').hidden === false && document.querySelector('#f-options').hidden === false")
         is_answered(shown, "5 of 9")
-        is_pressed(shown, at)
+        is_pressed(shown, f"#f-options li:nth-child({at}) button")
         shown.says("#p-send form code", line)
         shown.until("return document.activeElement === document.querySelector('#p-send form .sends')")
     assert lines(shown) == before
@@ -110,7 +110,7 @@ def test_who_may_send_what(sixty):
     speaks(shown, "NM")
     shown.until("return document.querySelectorAll('#f-options li small').length === 4")
     shown.says("#p-flight form", "Kind")
-    shown.click("#f-options li:nth-child(5) button")
+    is_pressed(shown, "#f-options li:nth-child(5) button")
     shown.says("#p-flight form code", "CTOT,DLH20T,-")
 
 
@@ -125,7 +125,7 @@ def test_an_answer_is_old_when_the_day_moves_on(sixty):
     assert shown.texts("#f-options li b") == SENTENCES and shown.js(ASKED) == 1
     # It isn't blocked any more, and takes off at 07:00.
     shown.says("#h-f", "planned")
-    shown.click("#o-old button")
+    is_pressed(shown, "#o-old button")
     shown.until("return /were tried|Nothing/.test(document.querySelector('#o-head').innerText) && document.querySelector('#o-old').hidden")
     assert shown.js(ASKED) == 2 and all(text.endswith("min earlier.") for text in shown.texts("#f-options li p:first-of-type"))
 
