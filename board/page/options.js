@@ -46,7 +46,7 @@ export function headOf({ tried, help, refused }) {
 export class Options {
   /** fill(line): puts a record into a form; onAsk(flight). */
   constructor({ day, desk, fill, onAsk }) {
-    Object.assign(this, { day, desk, fill, onAsk, flight: null, position: Infinity, from: null, list: [] });
+    Object.assign(this, { day, desk, fill, onAsk, flight: null, row: null, position: Infinity, from: null, list: [] });
     this.root = $('#f-options');
     [this.button, this.head, this.old, this.records] = ['#b-options', '#o-head', '#o-old', 'ul'].map((place) => $(place, this.root));
     this.old.append(el('span'), ' ', el('button', { type: 'button', class: 'quiet' }, 'Ask again'));
@@ -79,7 +79,7 @@ export class Options {
   /** The program's answer, of a position. Who hasn't gone on meanwhile is led to it. */
   take([now, ...list], position) {
     if (now.flight !== this.flight) return;
-    Object.assign(this, { now, list, position });
+    Object.assign(this, { now, list, position, row: this.day.rows.get(now.flight) });
     this.answered(headOf(now));
     this.draw();
     this.movedOn();
@@ -98,10 +98,10 @@ export class Options {
   }
 
   draw() {
-    const { date, rows } = this.day;
+    const { date } = this.day;
     const focused = this.records.contains(document.activeElement) ? document.activeElement.dataset.of : null;
     this.records.hidden = !this.list.length;
-    this.records.replaceChildren(...this.list.map((one, at) => el('li', {}, el('b', {}, sentenceOf(one, rows.get(this.flight), date)),
+    this.records.replaceChildren(...this.list.map((one, at) => el('li', {}, el('b', {}, sentenceOf(one, this.row, date)),
       el('p', {}, gainOf(one, date)), el('p', {}, costOf(one, this.now)), ...this.offer(one, at))));
     if (focused) $(`[data-of="${focused}"]`, this.records)?.focus({ preventScroll: true });
   }
@@ -110,7 +110,7 @@ export class Options {
   offer(one, at) {
     const why = this.whyNot(one);
     const line = lineOf(one);
-    const button = el('button', { type: 'button', class: 'quiet', 'data-of': at, 'aria-disabled': why !== '' && 'true', 'aria-describedby': why && `o-${at}` },
+    const button = el('button', { type: 'button', class: 'quiet', 'data-of': at, 'aria-disabled': why ? 'true' : null, 'aria-describedby': why ? `o-${at}` : null },
       `Put ${line.split(',', 1)[0]} into the form`);
     button.addEventListener('click', () => {
       if (!this.whyNot(one)) this.fill(line);
