@@ -3,7 +3,7 @@ use crate::tests::asserts::assert_holds;
 use crate::tests::devices::Page;
 use cdm_fault::{Fault, OpenReason, ShownPath, UnopenedFile, report_fault};
 use cdm_feed::{CommonFault, Device, RunError};
-use cdm_flight::RefusalWord;
+use cdm_flight::{FlightName, RefusalWord, Status};
 use cdm_live::LiveError;
 use cdm_port::{PortFault, Reason};
 use cdm_scenario::ScenarioName;
@@ -59,7 +59,12 @@ fn faults_have_lines(rt: HostRuntime) {
     let disordered = RunError::Scenario(1, RefusalWord::Order);
     let night = ScenarioName::new(b"NIGHT").expect(&rt, "scenario");
     let update = RunError::Update(night, 2, RefusalWord::Unknown);
+    let flight = FlightName::new(b"AB1").expect(&rt, "flight");
     let runs = [
+        (
+            RunError::NotPlanned(flight, Status::Cancelled),
+            "AB1 is cancelled",
+        ),
         (disordered, "SCENARIOS record 1: ORDER"),
         (RunError::NoScenario(night), "no scenario NIGHT"),
         (
