@@ -32,7 +32,7 @@ BY_GET = ("{command:options}/{name:[A-Z0-9]{1,7}}" + JSON,)
 BY_POST = ("{command:what-if}", "{command:check}", "{command:compare}", "{command:compare}/{name:[A-Z0-9][A-Z0-9-]{0,15}}")
 # Arguments of a path, and the options of the program that they are. A role is one of `options` alone: other questions ignore it.
 ARGUMENTS: dict[str, tuple[str, ...]] = {"minutes": (), "by": ("--by",), "scenario": ("--scenario",)}
-OF_OPTIONS = {"role": ("--role",)}
+OF_OPTIONS: dict[str, tuple[str, ...]] = {"role": ("--role",)}
 ARGUMENT = re.compile("[A-Za-z0-9][A-Za-z0-9-]{0,15}")
 # What the program says of what isn't there: also of a flight that isn't planned any more.
 UNKNOWN = re.compile("cdmseq: (no (flight|runway|scenario) |[A-Z0-9]{1,7} is (off-block|airborne|cancelled)$)")
