@@ -135,12 +135,8 @@ export class Effect {
 
 /** What a body would do, in words, or why it would be refused; and of which record the day was, if it is the day that says so. Raises Problem. */
 async function told(body, inWords) {
-  try {
-    const { list, position } = await objects(`/v1/compare/${NAME}`, { method: 'POST', body, accept: 'application/json' });
-    return { text: `Its effect: ${inWords(list)}.`, position };
-  } catch (problem) {
-    if (!(problem instanceof Problem) || problem.status !== 422) throw problem;
-    const { found: [first], position } = await checked(body);
-    return { text: `It would be refused: ${first ? first.sentence : 'the program says no more'}.`, position: first && !first.isOfDay ? Infinity : position };
-  }
+  const { found: [first], position: of } = await checked(body);
+  if (first) return { text: `It would be refused: ${first.sentence}.`, position: first.isOfDay ? of : Infinity };
+  const { list, position } = await objects(`/v1/compare/${NAME}`, { method: 'POST', body, accept: 'application/json' });
+  return { text: `Its effect: ${inWords(list)}.`, position };
 }
