@@ -335,7 +335,7 @@ def test_a_start_on_a_full_disk_ends_by_a_line(files, board):
     (server.folder / "full").mkdir()
     server.log = server.folder / "full" / "day.db"
     with pytest.raises(AssertionError, match="No space left on device"):
-        server.start(mounted("100k", server.folder / "full"))
+        server.start(mounted("64k", server.folder / "full"))
     assert server.process.wait(10) == 1 and server.told().count("\n") == 1
 
 
