@@ -20,6 +20,9 @@ def test_in_print(page):
         pressed = "return [...document.querySelectorAll('form, button, input, select, textarea, .btn')].filter((one) => one.checkVisibility()).map((one) => one.outerHTML.slice(0, 60))"
         assert shown.js(pressed) == []
         assert shown.flights("next") and shown.text("#h-f").startswith("RYR6")
+        shown.js("location.hash = '#what-if'")
+        shown.until("return document.querySelector('#what-if').checkVisibility()")
+        assert shown.js(f"{pressed.replace('return ', 'const left = ', 1)}; return left") == []
     finally:
         shown.driver.execute_cdp_cmd("Emulation.setEmulatedMedia", {"media": ""})
 
