@@ -4,6 +4,7 @@ import { isLate } from './day.js';
 import { $, el, named, say } from './dom.js';
 import { notice } from './head.js';
 import { whenFree } from './hold.js';
+import { enableIn } from './press.js';
 import { Sender } from './sender.js';
 import { hm, later, minutesFrom, typed } from './times.js';
 import { current } from './warnings.js';
@@ -145,6 +146,7 @@ export class Mine {
       const { item } = this.cards.get(name);
       const put = this.list.moveBefore && item.isConnected ? 'moveBefore' : 'insertBefore'; // the one keeps the focus
       if (item.nextSibling !== before || !item.isConnected) this.list[put](item, before);
+      enableIn(item);
       before = item;
     }
   }
