@@ -58,7 +58,7 @@ export class Act {
     const focused = document.activeElement?.closest?.('#act') && document.activeElement.dataset.of;
     this.list.replaceChildren(...rows.map((row) => this.itemOf(row)));
     if (focused) $(`#act [data-of="${CSS.escape(focused)}"]`)?.focus({ preventScroll: true });
-    say($('#h-act small'), groups.length ? `${counted(groups.length, 'row')}, what is to be acted on first` : 'There is no warning.');
+    say($('#h-act small'), groups.length ? `${counted(groups.length, 'row')}, the most urgent first` : 'There is no warning.');
     this.ask(groups.map(([one]) => one).filter(isAtCtot).slice(0, MOST_ASKED).map((one) => one.flight));
   }
 

@@ -67,7 +67,7 @@ export class Desk {
       $('#p-sign-in form').elements.token.value = '';
       return;
     }
-    say(fault, `${detail}.`);
+    say(fault, `Not signed in: ${detail}.`);
     fault.focus();
   }
 

@@ -4,6 +4,7 @@ import { isLate } from './day.js';
 import { $, el, named, say } from './dom.js';
 import { notice } from './head.js';
 import { whenFree } from './hold.js';
+import { enableIn } from './press.js';
 import { Sender } from './sender.js';
 import { hm, later, minutesFrom, typed } from './times.js';
 import { current } from './warnings.js';
@@ -64,6 +65,12 @@ class Card extends Sender {
     this.preview();
   }
 
+  /** Its button is the main one once something is put in. */
+  preview() {
+    super.preview();
+    this.root.classList.toggle('is-touched', this.isTouched);
+  }
+
   changedText(reply) {
     const row = reply.changes?.find((one) => one.flight === this.name) ?? this.day.rows.get(this.name);
     return row?.tsat ? `Start-up ${hm(row.tsat, this.day.date)}.` : row ? `${statusWord(row.status)} ${row.rule ?? ''}.` : '';
@@ -78,7 +85,7 @@ class Card extends Sender {
     say(this.ahead, mark || (row.status !== 'PLANNED' ? [row.tsat && statusWord(row.status), row.rule].filter(Boolean).join(' ') : minutes > 0 ? `in ${minutes}` : 'now'));
     this.item.classList.toggle('moved', mark !== null);
     const words = [row.delay ? `${isLate(row) ? 'late ' : 'delay '}${row.delay}` : '', row.ctot && `CTOT ${hm(row.ctot, date)}`, since].filter(Boolean).join(' · ');
-    this.why.replaceChildren(...warned.flatMap((kind) => [el('b', { class: 'tag' }, kind), ' ']), ...(cause ? [el('b', { class: `cause k${LETTERS[cause] ?? ''}` }, REASONS[cause] ?? cause), ' '] : []), words);
+    this.why.replaceChildren(...warned.flatMap((kind) => [el('b', { class: `tag ${kind}` }, kind), ' ']), ...(cause ? [el('b', { class: `cause k${LETTERS[cause] ?? ''}` }, REASONS[cause] ?? cause), ' '] : []), words);
     this.root.hidden = !takes;
     if (!this.isTouched && document.activeElement !== this.field) this.field.value = row.tobt ? hm(row.tobt, date) : '';
     this.preview();
@@ -139,6 +146,7 @@ export class Mine {
       const { item } = this.cards.get(name);
       const put = this.list.moveBefore && item.isConnected ? 'moveBefore' : 'insertBefore'; // the one keeps the focus
       if (item.nextSibling !== before || !item.isConnected) this.list[put](item, before);
+      enableIn(item);
       before = item;
     }
   }

@@ -29,10 +29,15 @@ function mark(button, note) {
   say(note, whyNot());
 }
 
+/** The same for a part of the page that has just been put there: it may have been made when something else was so. */
+export function enableIn(root) {
+  for (const button of root.querySelectorAll('.sends')) mark(button, $(`#${button.getAttribute('aria-describedby').split(' ')[0]}`));
+}
+
 /** Whether records can be sent from now on, and what is only asked of the server. */
 export function enableForms(why) {
   word = why;
-  for (const button of $$('.sends')) mark(button, $(`#${button.getAttribute('aria-describedby').split(' ')[0]}`));
+  enableIn(document);
   for (const button of $$('#p-what-if form button:not([type])')) button.disabled = why === 'lost' || why === 'opening';
 }
 

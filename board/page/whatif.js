@@ -26,6 +26,7 @@ class ScenarioForm extends RecordForm {
   constructor(kinds, more) {
     super(kinds, more);
     this.note.remove(); // it sends nothing
+    this.line.previousSibling.data = 'Is added as ';
     this.button.classList.remove('sends');
     this.button.removeAttribute('aria-disabled');
     this.button.setAttribute('type', 'submit'); // said, it isn't the panel's main one

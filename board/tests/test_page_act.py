@@ -237,7 +237,7 @@ def test_a_row_of_what_to_do_for_each_flight(page):
     assert "its TTOT 05:40 is more than 5 minutes ago, and no AIR has come. If it has taken off, send AIR" in overdue and "Tell the Network Manager." in overdue
     assert blocked.startswith("BLOCKED EZY7 since before this page was opened; moved last by CTOT 06:30, NM ") and "Send an earlier TOBT." in blocked
     assert shown.texts("#act button") == ["Put RWY into the form of EZY7", "Put PRIO into the form of EZY7", "Put AIR 05:40 into the form of A2"]
-    assert shown.text("#h-act") == "What to do 2 rows, what is to be acted on first"
+    assert shown.text("#h-act") == "What to do 2 rows, the most urgent first"
     # A new one says since when; one that has ended goes.
     shown.server.post(f"CTOT,BAW3,{at('05:00')}", Cdm_Role="NM")
     shown.says("#act", "BLOCKED BAW3 since ")

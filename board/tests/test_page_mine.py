@@ -6,7 +6,7 @@ from browser import size
 from selenium_or_none import Keys
 from test_page_desks import DENIED, sign_in
 from test_page_eye import BROKEN, CLIPPED, SPACED
-from test_page_look import TOKENS
+from test_page_look import TOKENS, colour
 from test_page_rules import TARGETS
 
 OWN = {"atc": 'role = "ATC"\nclock = true', "ap": 'role = "AP"', "ao": 'role = "AO"', "nm": 'role = "NM"', "ground": 'role = "GH"\nflights = ["DLH", "EZY"]'}
@@ -37,6 +37,18 @@ def test_own_flights_are_first(page):
     assert shown.js("return location.search") == "?whose=all" and shown.texts("#causes tbody tr:last-child")[0].startswith("TOTAL 46")
     shown.choose("#filter [name=whose]", "my flights")
     shown.until("return document.querySelectorAll('#next tbody tr').length === 2")
+
+
+def test_a_card_has_a_main_button_while_a_tobt_is_put_in(page):
+    """One thing at a time is filled: nothing on cards that nobody has touched, then the button of the card that somebody has."""
+    shown = opened(page, 360)
+    filled = """return [...document.querySelectorAll('#mine form button:not([type])')].filter((one) => one.checkVisibility()
+        && getComputedStyle(one).backgroundColor === arguments[0]).map((one) => one.closest('li').dataset.flight)"""
+    link = colour(shown, "link")
+    shown.until("return document.querySelectorAll('#mine form button:not([type], :disabled, [aria-disabled=true])').length === 3")
+    assert shown.js(filled, link) == []
+    shown.click("#mine li[data-flight=DLH1] [aria-label='TOBT 5 minutes later']")
+    assert shown.js(filled, link) == ["DLH1"]
 
 
 LATE = """const real = fetch; window.fetch = async (...words) => {
