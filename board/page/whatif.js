@@ -33,7 +33,7 @@ class ScenarioForm extends RecordForm {
   }
 
   send() {
-    this.answer('Added', `to scenario ${this.onSend(this.line.textContent)}; nothing is sent.`, null, true);
+    if (this.isWhole()) this.answer('Added', `to scenario ${this.onSend(this.line.textContent)}; nothing is sent.`, null, true);
   }
 }
 

@@ -260,6 +260,57 @@ def test_overdue_offers_air_with_its_time(page):
     shown.says("#h-f", "airborne")
 
 
+def test_a_record_that_lacks_a_value_is_not_sent(page):
+    """BAW3 could have started up at 06:00, and it is 06:10. Its button leads to the empty box, in which one types at once; Enter in it says what it takes."""
+    shown = page()
+    fill(shown.server, {"ATC": [f"CLOCK,{at('06:10')}"]})
+    size(shown.driver, 1280, 500)
+    shown.open("#BAW3")
+    shown.choose("#role", "ATC")
+    shown.until("return document.querySelectorAll('#f-warnings button').length === 1 && document.querySelector('#p-flight form') !== null")
+    before = lines(shown)
+    shown.click("#f-warnings button")
+    shown.says("#p-flight form code", "OFF,BAW3,")
+    assert shown.js("return document.activeElement.name") == "time"
+    shown.keys(Keys.ENTER)
+    shown.says("#p-flight .reply", "Not sent. Give a time, such as 06:10.")
+    box = "const one = document.querySelector('#p-flight form [name=time]'); return [one.getAttribute('aria-invalid'), one === document.activeElement]"
+    described = "return document.activeElement.getAttribute('aria-describedby').split(' ').map((id) => document.getElementById(id).innerText).at(-1)"
+    assert shown.js(box) == ["true", True] and shown.js(described) == "Not sent. Give a time, such as 06:10."
+    assert lines(shown) == before
+    shown.keys("0605")
+    assert shown.js(box) == [None, True] and not shown.find("#p-flight .reply").is_displayed()
+    shown.says("#p-flight .effect", "Its effect: off-block")
+    shown.keys(Keys.ENTER)
+    shown.says("#p-flight .reply", "Accepted.")
+    assert lines(shown) == [*before, f"OFF,BAW3,{at('06:05')}"]
+    # The reply is in sight, in the window and in its panel.
+    seen = """const [one, panel] = ['#p-flight .reply', '#p-flight'].map((place) => document.querySelector(place).getBoundingClientRect());
+        return one.top >= panel.top && one.bottom <= Math.min(panel.bottom, innerHeight)"""
+    assert shown.js(seen)
+
+
+def test_a_value_that_is_no_time_is_asked_for_by_its_name(page):
+    """In the form of a desk and in that of the what-if, where nothing is added either."""
+    shown = form_of(page, "ATC", "DLH1")
+    before = lines(shown)
+    shown.choose("#p-flight form [name=kind]", "PRIO")
+    shown.find("#p-flight form [name=priority]").clear()
+    for button in ("Send", "Add to what-if"):
+        shown.js("[...document.querySelectorAll('#p-flight form button')].find((one) => one.innerText === arguments[0]).click()", button)
+        shown.says("#p-flight .reply", "Not sent. Give the priority: ")
+        assert shown.js("return document.activeElement.name") == "priority"
+        shown.choose("#p-flight form [name=kind]", "OFF")
+        assert not shown.find("#p-flight .reply").is_displayed()
+        shown.choose("#p-flight form [name=kind]", "PRIO")
+        shown.find("#p-flight form [name=priority]").clear()
+    shown.js("location.hash = '#what-if'")
+    shown.until("return document.querySelector('#p-what-if form.send [name=kind]') !== null")
+    shown.click("#p-what-if form.send button")
+    shown.says("#p-what-if form.send .reply", "Not sent. Give the flight: 1 to 7 of A-Z and 0-9.")
+    assert shown.js(READ).strip() == "SCENARIO,NAME" and lines(shown) == before
+
+
 def test_who_may_not_send_has_no_button(page):
     shown = left(page, "#act")
     shown.until("return document.querySelectorAll('#act button').length === 3")
