@@ -230,13 +230,13 @@ def test_a_row_of_what_to_do_for_each_flight(page):
     its CTOT, when it could take off first."""
     shown = left(page)
     shown.click("#warnings [data-panel=act]")
-    shown.until("return document.querySelectorAll('#act > li').length === 2 && document.querySelectorAll('#act button').length === 3")
+    shown.until("return document.querySelectorAll('#act > li').length === 2 && document.querySelectorAll('#act button').length === 1")
     shown.says("#act", "The first free take-off is 07:15, with the start-up 07:00: ask the Network Manager for a CTOT of about that time.")
     blocked, overdue = shown.texts("#act > li")
     assert overdue.startswith("OVERDUE MISSED A2 since before this page was opened; moved last by OFF 05:25, ATC ")
     assert "its TTOT 05:40 is more than 5 minutes ago, and no AIR has come. If it has taken off, send AIR" in overdue and "Tell the Network Manager." in overdue
-    assert blocked.startswith("BLOCKED EZY7 since before this page was opened; moved last by CTOT 06:30, NM ") and "Send an earlier TOBT." in blocked
-    assert shown.texts("#act button") == ["Put RWY into the form of EZY7", "Put PRIO into the form of EZY7", "Put AIR 05:40 into the form of A2"]
+    assert blocked.startswith("BLOCKED EZY7 since before this page was opened; moved last by CTOT 06:30, NM ") and "Ask its operator for an earlier TOBT." in blocked
+    assert shown.texts("#act button") == ["Put AIR 05:40 into the form of A2"]
     assert shown.text("#h-act") == "What to do 2 rows, what is to be acted on first"
     # A new one says since when; one that has ended goes.
     shown.server.post(f"CTOT,BAW3,{at('05:00')}", Cdm_Role="NM")
@@ -313,13 +313,58 @@ def test_a_value_that_is_no_time_is_asked_for_by_its_name(page):
 
 def test_who_may_not_send_has_no_button(page):
     shown = left(page, "#act")
-    shown.until("return document.querySelectorAll('#act button').length === 3")
-    shown.choose("#role", "AP")
-    shown.until("return document.querySelectorAll('#act button').length === 1")
-    assert shown.texts("#act button") == ["Put STAND into the form of EZY7"]
+    shown.says("#act button", "Put AIR 05:40 into the form of A2")
+    shown.choose("#role", "AO")
+    shown.says("#act button", "Put TOBT into the form of EZY7")
+    assert len(shown.texts("#act button")) == 1
     shown.choose("#role", "read only")
     shown.until("return document.querySelectorAll('#act button').length === 0")
     assert len(shown.texts("#act > li")) == 2
+
+
+# AFR4's window is closed; X1 is ready at 06:15, and BAW3 and DLH1 have the places of its window, 06:04 to 06:19. EZY7's window has ended.
+HELD = {"AP": ["FLT,X1,5"], "ATC": ["RWY,X1,27L", f"CLOSE,09,{at('07:00')},{at('07:30')}"], "AO": [f"TOBT,X1,{at('06:00')}"], "NM": [f"CTOT,X1,{at('06:09')}"]}
+
+
+def test_what_cannot_help_is_not_offered(page):
+    """No priority where the window is closed or has ended, another runway than its own, and a smaller number. Who may not send is told whom to ask."""
+    shown = page()
+    fill(shown.server, HELD)
+    offered = {"ATC": {"AFR4": ["RWY 27L"], "X1": ["RWY 09", "PRIO 4"], "EZY7": []}, "AO": {"AFR4": ["TOBT"], "X1": ["TOBT"], "EZY7": ["TOBT"]},
+               "NM": {"AFR4": ["CTOT"], "X1": ["CTOT"], "EZY7": ["CTOT"]}}
+    said = {"ATC": "Ask its operator for an earlier TOBT. Or ask the Network Manager for a later CTOT than 06:30.",
+            "AO": "Send an earlier TOBT. Or ask the Network Manager for a later CTOT than 06:30.", "NM": "Ask its operator for an earlier TOBT. Or send a later CTOT than 06:30."}
+    shown.open("#act")
+    for role, flights in offered.items():
+        shown.choose("#role", role)
+        wanted = [f"Put {record} into the form of {name}" for name, records in flights.items() for record in records]
+        shown.until("return [...document.querySelectorAll('#act button')].map((one) => one.textContent).sort().join() === arguments[0]", ",".join(sorted(wanted)))
+        shown.says("#act", said[role])
+    # In the flight's panel it is the same, and the press puts the value into the form.
+    shown.choose("#role", "ATC")
+    shown.js("location.hash = '#X1'")
+    shown.until("return document.querySelectorAll('#f-warnings button').length === 2")
+    shown.says("#p-flight form", "Kind")
+    for record, line in (("RWY 09", "RWY,X1,09"), ("PRIO 4", "PRIO,X1,4")):
+        shown.js("[...document.querySelectorAll('#f-warnings button')].find((one) => one.innerText.includes(arguments[0])).click()", record)
+        shown.says("#p-flight form code", line)
+        assert shown.js("return document.activeElement === document.querySelector('#p-flight form .sends')")
+
+
+def test_the_window_of_a_ctot(page):
+    """From 5 minutes before it to 10 minutes after it, and as TOL says from then on; of a flight that is blocked at it, when it could take off first."""
+    shown = page().open("#AFR4")
+    shown.says("#f-ctot", "CTOT 07:10, window 07:05 to 07:20.")
+    assert "free" not in shown.text("#f-ctot")
+    shown.js("location.hash = '#RYR6'")
+    shown.says("#waits", "CLOSURE")
+    assert not shown.find("#f-ctot").is_displayed()
+    shown.js("location.hash = '#EZY7'")
+    shown.says("#f-ctot", "CTOT 06:30, window 06:25 to 06:40. The first free take-off is 07:15, with the start-up 07:00: ask the Network Manager")
+    assert shown.texts("#waits li") == ["C from 07:15 on CTOT to the end"]
+    shown.server.post("TOL,2,20", Cdm_Role="NM")
+    shown.js("location.hash = '#AFR4'")
+    shown.says("#f-ctot", "CTOT 07:10, window 07:08 to 07:30.")
 
 
 def test_a_runway_is_closed_from_its_own_head(page):
