@@ -7,6 +7,8 @@ import { hm, typed } from './times.js';
 
 export { movedOn } from './effect.js';
 
+/** What the page says of a field in place of the program's form and range. */
+const HINTS = { priority: '0 is first, 9 last' };
 const TIME = 'YYYY-MM-DDTHH:MMZ';
 
 /** The words that a form lists, as `NONE, STAND or REMOTE`; null where it is no such list. */
@@ -75,7 +77,7 @@ export class RecordForm extends Sender {
     for (const [at, field] of kind.fields.entries()) {
       if (this.flight && at === 0) continue;
       const id = `${this.id}-${at}`;
-      const hint = [field.form.replace(TIME, `HH:MM UTC (or ${this.day.date.slice(8)} HH:MM)`), field.range].filter(Boolean).join('; ');
+      const hint = HINTS[field.name] ?? [field.form.replace(TIME, `HH:MM UTC (or ${this.day.date.slice(8)} HH:MM)`), field.range].filter(Boolean).join('; ');
       const choices = field.name === 'runway' && this.runways().length ? this.runways() : listed(field.form);
       const value = current(field.name, kind.kind, this.row, this.day.date);
       const input = choices
