@@ -17,7 +17,7 @@ const AGAIN = 5000; // ms between two questions of one flight
 const WINDOW = ['CTOT', 'CLOSURE', 'SPACING', 'RATE'];
 
 /** Whether a flight is blocked at its CTOT. */
-const isAtCtot = (one) => one.kind === 'BLOCKED' && one.ctot && WINDOW.includes(one.rule);
+export const isAtCtot = (one) => one.kind === 'BLOCKED' && one.ctot && WINDOW.includes(one.rule);
 
 /** When a flight would take off first if no CTOT bound it and all others came before it: the program's own what-if. Raises Problem. */
 async function firstFree(name) {
@@ -27,9 +27,9 @@ async function firstFree(name) {
 }
 
 export class Act {
-  /** warnings: the strip's; propose(flight, kind, ...values): puts a record into the flight's form. */
-  constructor({ day, moves, desk, warnings, propose }) {
-    Object.assign(this, { day, moves, desk, warnings, propose, isOpen: false, said: '', free: new Map(), isAsking: false });
+  /** runways(): their names; warnings: the strip's; propose(flight, kind, ...values): puts a record into the flight's form. */
+  constructor({ day, moves, desk, runways, warnings, propose }) {
+    Object.assign(this, { day, moves, desk, runways, warnings, propose, isOpen: false, said: '', free: new Map(), isAsking: false });
     this.list = $('#act');
     current.addEventListener('told', () => this.changed());
   }
@@ -67,11 +67,12 @@ export class Act {
     const { date } = this.day;
     const [first] = group;
     const { flight } = first;
-    const all = explained(group, date);
-    const status = this.day.rows.get(flight)?.status;
+    const row = this.day.rows.get(flight);
+    const all = explained(group, { date, row, runways: this.runways(), may: (kind) => this.desk.maySend(`${kind},${flight}`) });
+    const status = row?.status;
     const kinds = status ? this.desk.kindsOf(flight).map((one) => one.kind).filter((kind) => takesKind(status, kind)) : [];
     const free = isAtCtot(first) ? this.free.get(flight) : null;
-    return { flight, isHelpable: isHelpable(this.day.rows.get(flight)), kinds: group.map((one) => one.kind), since: this.since(group), words: all.map(({ means, act }) => `${means} ${act}`),
+    return { flight, isHelpable: isHelpable(row), kinds: group.map((one) => one.kind), since: this.since(group), words: all.map(({ means, act }) => `${means} ${act}`),
       free: isAtCtot(first) && freeWords(free, date), buttons: all.flatMap(({ answers }) => answers).filter(({ kind }) => kinds.includes(kind))
         .filter(({ kind }, at, list) => list.findIndex((one) => one.kind === kind) === at) };
   }
@@ -87,10 +88,9 @@ export class Act {
     return el('li', {}, el('b', { class: ACT.includes(kinds[0]) && 'act' }, kinds.join(' ')), ' ', flight && el('a', { href: `#${flight}`, 'data-of': flight }, flight), ' ', el('small', {}, since),
       ...words.map((text) => el('p', {}, text)), free && el('p', { class: 'free' }, free),
       isAsked && el('p', {}, el('a', { href: `#${flight}`, 'data-helps': flight, 'data-of': `${flight} helps` }, 'What could help?', el('span', { class: 'vh' }, ` ${flight}`))),
-      ...buttons.map(({ kind, time }) => {
-        const at = time ? [hm(time, this.day.date)] : [];
-        const button = el('button', { type: 'button', class: 'quiet', 'data-of': `${flight} ${kind}` }, `Put ${[kind, ...at].join(' ')} into the form`, el('span', { class: 'vh' }, ` of ${flight}`));
-        button.addEventListener('click', () => this.propose(flight, kind, ...at));
+      ...buttons.map(({ kind, values }) => {
+        const button = el('button', { type: 'button', class: 'quiet', 'data-of': `${flight} ${kind}` }, `Put ${[kind, ...values].join(' ')} into the form`, el('span', { class: 'vh' }, ` of ${flight}`));
+        button.addEventListener('click', () => this.propose(flight, kind, ...values));
         return button;
       }));
   }
@@ -112,7 +112,8 @@ export class Act {
   }
 }
 
-async function asked(name) {
+/** The first free take-off, or why it isn't known. */
+export async function asked(name) {
   try {
     return await firstFree(name);
   } catch (problem) {
@@ -121,7 +122,8 @@ async function asked(name) {
   }
 }
 
-function freeWords(free, date) {
+/** The first free take-off in words. */
+export function freeWords(free, date) {
   if (!free) return 'The first free take-off: …';
   if (!free.row) return `The first free take-off isn’t known: ${free.detail}.`;
   if (!free.row.ttot) return `It has no free take-off, even without its CTOT: ${free.row.rule}.`;

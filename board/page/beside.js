@@ -34,6 +34,12 @@ async function planOr(path, body) {
   }
 }
 
+/** The scenario that the program puts first, of those that are plans; null: none is. Raises Problem. */
+export async function best(body) {
+  const { list } = await objects('/v1/compare', { method: 'POST', body, accept: 'application/json' });
+  return list.find((one) => one.scenario && !('word' in one))?.scenario ?? null;
+}
+
 /**
  * The lines of all plans, and the flights that scenario `name` has otherwise than `base`, another scenario, or than the day where that is null; all
  * of one position. Raises Problem.

@@ -17,7 +17,9 @@ export class Closing extends Sender {
     super({ day, onSend, word: `Close ${runway}`, label: `Close runway ${runway}`, kinds,
       inputs: [el('label', {}, 'From, UTC ', from), el('label', {}, 'for ', length), until] });
     this.button.after(end);
-    Object.assign(this, { runway, from, length, until, isTouched: true });
+    Object.assign(this, { runway, from, length, until, endButton: end, isTouched: true, done: '' });
+    until.id = `${this.id}-until`;
+    from.setAttribute('aria-describedby', until.id);
     end.addEventListener('click', onEnd);
     this.root.addEventListener('keydown', (event) => {
       if (event.key !== 'Escape') return;
@@ -35,15 +37,33 @@ export class Closing extends Sender {
     return typed(this.from.value, this.day.date);
   }
 
-  send() {
-    if (this.isFilled) super.send();
-    else this.answer('Not sent.', 'From when on? A time is HH:MM, UTC.', null, false);
+  preview() {
+    super.preview();
+    this.enable();
+  }
+
+  /** What is no time can't be sent, nor what was sent already: it is taken back below, or other minutes are chosen. */
+  enable() {
+    this.button.disabled = this.isSending || !this.isFilled || this.line.textContent === this.done;
+  }
+
+  async told(outcome) {
+    await super.told(outcome);
+    this.enable();
+  }
+
+  taken(reply) {
+    super.taken(reply);
+    this.done = this.line.textContent;
+    say(this.endButton, 'Done');
   }
 
   text() {
-    const { begin } = this;
-    const end = this.isFilled ? later(begin, Number(this.length.value)) : '';
-    say(this.until, end && `to ${hm(end, this.day.date)}`);
+    const { begin, isFilled } = this;
+    const end = isFilled ? later(begin, Number(this.length.value)) : '';
+    say(this.until, isFilled ? `to ${hm(end, this.day.date)}` : `From when on? Give a time, such as ${hm(this.day.now, this.day.date)}.`);
+    if (isFilled) this.from.removeAttribute('aria-invalid');
+    else this.from.setAttribute('aria-invalid', 'true');
     return ['CLOSE', this.runway, begin, end].join(',');
   }
 }
@@ -76,6 +96,7 @@ export class Closings {
     button.setAttribute('aria-expanded', 'true');
     root.append(form.root);
     form.from.focus();
+    form.from.select(); // what is typed takes its place
   }
 
   end(runway, button) {

@@ -5,6 +5,7 @@ import { Problem, objects } from './net.js';
 import { hm } from './times.js';
 
 const NAME = 'THIS';
+const NAMED = 3; // flights that move, by name
 const PAUSE = 400; // ms after the last key
 const AGAIN = 3000; // ms between two questions while the day moves on
 const shown = new Set();
@@ -51,15 +52,30 @@ function words({ list, flight, row, date }) {
   const mine = moved.find((one) => one.flight === flight);
   const others = moved.filter((one) => one !== mine);
   const out = others.filter(({ before, after }) => before?.tsat && after.status === 'BLOCKED');
-  const lost = out.filter(({ after }) => after.ctot).length;
-  const freed = others.filter(({ before, after }) => before && !before.tsat && after.tsat).length;
-  const rest = others.length - out.length - freed;
-  const first = [flight && own(mine, row, date), (rest > 0 || !out.length && !freed) && `moves ${rest || 'no'} ${flight ? 'other ' : ''}flight${rest > 1 ? 's' : ''}`];
+  const [lost, shut] = [out.filter(({ after }) => after.ctot), out.filter(({ after }) => !after.ctot)];
+  const freed = others.filter(({ before, after }) => before && !before.tsat && after.tsat);
+  const rest = others.filter((one) => !out.includes(one) && !freed.includes(one));
+  const first = [flight && own(mine, row, date), (rest.length > 0 || !out.length && !freed.length) && moves(rest, flight)];
   const [base, then] = [list.find((one) => one.scenario === null), list.find((one) => one.scenario === NAME)];
-  return [first.filter(Boolean).join(', '), lost && `${counted(lost, 'flight')} ${lost === 1 ? 'loses its' : 'lose their'} CTOT`,
-    out.length > lost && `${counted(out.length - lost, 'flight')} ${out.length - lost === 1 ? 'is' : 'are'} blocked`,
-    freed && `${counted(freed, 'flight')} no longer blocked`, then.delay !== base.delay && `${signed(then.delay - base.delay)} min of delay in all`]
-    .filter(Boolean).join('; ');
+  return [first.filter(Boolean).join(', '), lost.length && `${counted(lost.length, 'flight')} ${lost.length === 1 ? 'loses its' : 'lose their'} CTOT: ${names(lost)}`,
+    shut.length && `${counted(shut.length, 'flight')} ${shut.length === 1 ? 'is' : 'are'} blocked: ${names(shut)}`,
+    freed.length && `${counted(freed.length, 'flight')} no longer blocked: ${names(freed)}`, ...inAll(base, then)].filter(Boolean).join('; ');
+}
+
+/** Some of them by name. */
+const names = (list) => `${list.slice(0, NAMED).map((one) => one.flight).join(', ')}${list.length > NAMED ? ' …' : ''}`;
+
+/** Which flights move, beside the one that the records are of. */
+function moves(list, flight) {
+  if (list.length < 2) return list.length ? `moves ${names(list)}` : `moves no ${flight ? 'other ' : ''}flight`;
+  return `moves ${list.length} ${flight ? 'others' : 'flights'}: ${names(list)}`;
+}
+
+/** What becomes of the totals, where they change. */
+function inAll(base, then) {
+  const late = then.late - base.late;
+  return [then.delay !== base.delay && `${signed(then.delay - base.delay)} min of delay in all`, late !== 0 && `${Math.abs(late)} ${late > 0 ? 'more' : 'fewer'} late`,
+    then.max !== base.max && `greatest delay ${then.max} min (was ${base.max})`];
 }
 
 /** What becomes of the flight itself. */
@@ -69,7 +85,7 @@ function own(mine, row, date) {
   if (!after) return '';
   const is = `${after.status === 'PLANNED' ? 'start-up ' : ''}${said(after)}`;
   if (!mine) return `${is} as now`;
-  return mine.before && said(mine.before) !== said(after) ? `${is} (now ${said(mine.before)})` : is;
+  return mine.before && said(mine.before) !== said(after) ? `${is} (was ${said(mine.before)})` : is;
 }
 
 /** A line that says what records would do, as long as they are the ones that would be sent. */

@@ -1,7 +1,7 @@
 // One flight: what it is, why it waits, what to send, and its records.
 import { LETTERS, facts, inWords, statusWord, takesKind, write } from './columns.js';
 import { $, $$, el, say } from './dom.js';
-import { Problem, objects } from './net.js';
+import { Problem, needed, objects } from './net.js';
 import { showRecords } from './records.js';
 import { hm, later, minutesFrom } from './times.js';
 import { current, explained } from './warnings.js';
@@ -40,6 +40,7 @@ export class FlightPanel {
     say($('#why-note'), '…');
     say($('#f-link'), 'Copy link');
     $('#f-address').hidden = true;
+    $('#f-ctot').hidden = true;
     $('#wait').replaceChildren();
     say($('#wait-ends'), '');
     this.changed();
@@ -88,16 +89,17 @@ export class FlightPanel {
 
   /** What its warnings mean, what to do, and a button for each record that answers them and that the desk may send. */
   warned() {
-    const list = this.name && this.row ? explained(current.list.filter((one) => one.flight === this.name), this.day.date) : [];
+    const { row } = this;
+    const of = { date: this.day.date, row, runways: this.runways(), may: (kind) => this.desk.maySend(`${kind},${this.name}`) };
+    const list = this.name && row ? explained(current.list.filter((one) => one.flight === this.name), of) : [];
     const text = JSON.stringify([this.name, list, this.kinds().map((kind) => kind.kind)]);
     if (text === this.told) return;
     this.told = text;
     $('#f-warnings').hidden = !list.length;
     $('#f-warnings').replaceChildren(...list.map(({ kind, means, act, answers }) => el('li', {}, el('b', {}, kind), ` ${means} ${act} `,
-      ...answers.filter((one) => this.kinds().some((other) => other.kind === one.kind)).map(({ kind: record, time }) => {
-        const at = time ? [hm(time, this.day.date)] : [];
-        const button = el('button', { type: 'button', class: 'quiet' }, `Put ${[record, ...at].join(' ')} into the form`);
-        button.addEventListener('click', () => this.form?.propose(record, ...at));
+      ...answers.filter((one) => this.kinds().some((other) => other.kind === one.kind)).map(({ kind: record, values }) => {
+        const button = el('button', { type: 'button', class: 'quiet' }, `Put ${[record, ...values].join(' ')} into the form`);
+        button.addEventListener('click', () => this.form?.propose(record, ...values));
         return button;
       }))));
   }
@@ -160,16 +162,39 @@ export class FlightPanel {
     this.why = told;
     const { row, waits } = why;
     const { date } = this.day;
-    const times = ({ from, to }) => (from === to ? hm(from, date) : `${hm(from, date)}–${hm(to, date)}`).replaceAll(' ', '\u00a0');
+    const isLast = (wait) => row.status === 'BLOCKED' && wait.reason === 'CTOT' && wait === waits.at(-1); // its window has ended
+    const times = (wait) => (isLast(wait) ? `from ${hm(wait.from, date)} on` : wait.from === wait.to ? hm(wait.from, date)
+      : `${hm(wait.from, date)}–${hm(wait.to, date)}`).replaceAll(' ', '\u00a0');
     const [first] = waits;
+    this.askWindow(row);
     say($('#why-note'), !waits.length ? { PLANNED: 'It doesn’t wait.', BLOCKED: `It is blocked by ${row.rule}: it lacks what that rule asks for.` }[row.status] ?? ENDED[row.status]
       : row.status === 'BLOCKED' ? blockedWords(row, waits, date) : `${row.delay} min, take-off ${hm(first.from, date)} to ${hm(row.ttot, date)}`);
     const listed = this.isWhole ? waits : waits.slice(0, LISTED);
     $('#waits').replaceChildren(...listed.map((wait) => el('li', { tabindex: this.isWhole && -1 }, el('b', { class: `k${LETTERS[wait.reason]}`, 'aria-hidden': 'true' }, LETTERS[wait.reason]),
       el('span', {}, times(wait)), el('span', {}, el('b', {}, wait.reason), wait.cap === null ? '' : ` ${wait.flights.length}/${wait.cap}`,
         wait.reason === 'SPACING' ? ' to' : '', ...wait.flights.flatMap((name) => [' ', el('a', { href: `#${name}` }, name)])),
-      el('span', {}, `${minutesFrom(wait.from, wait.to) + 1} min`))), waits.length > listed.length ? this.rest(why, waits.length - LISTED) : '');
+      el('span', {}, isLast(wait) ? 'to the end' : `${minutesFrom(wait.from, wait.to) + 1} min`))), waits.length > listed.length ? this.rest(why, waits.length - LISTED) : '');
     this.draw(waits, row);
+  }
+
+  /** The window of its CTOT, and, of a flight that is blocked at it, when it could take off first. */
+  async askWindow(row) {
+    const root = $('#f-ctot');
+    const { name, why } = this;
+    const { date } = this.day;
+    if (this.ctotOf !== JSON.stringify([name, date, row.ctot])) root.hidden = true;
+    if (!row.ctot || !row.runway || !row.tobt || !['PLANNED', 'BLOCKED'].includes(row.status)) return;
+    try {
+      const [{ windowOf }, act] = await Promise.all([needed('ctot'), needed('act')]);
+      const found = await windowOf(row, date);
+      const free = act.isAtCtot({ ...row, kind: row.status }) ? await act.asked(name) : null;
+      if (this.name !== name || this.why !== why) return;
+      this.ctotOf = JSON.stringify([name, date, row.ctot]);
+      say(root, [found && `CTOT ${hm(row.ctot, date)}, window ${hm(found.from, date)} to ${hm(found.to, date)}.`, free && act.freeWords(free, date)].filter(Boolean).join(' '));
+      root.hidden = !root.textContent;
+    } catch (problem) {
+      if (!(problem instanceof Problem)) throw problem;
+    }
   }
 
   /** How many more waits there are, to which time; a press lists them. */

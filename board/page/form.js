@@ -7,6 +7,8 @@ import { hm, typed } from './times.js';
 
 export { movedOn } from './effect.js';
 
+/** What the page says of a field in place of the program's form and range. */
+const HINTS = { priority: '0 is first, 9 last' };
 const TIME = 'YYYY-MM-DDTHH:MMZ';
 
 /** The words that a form lists, as `NONE, STAND or REMOTE`; null where it is no such list. */
@@ -30,6 +32,7 @@ export class RecordForm extends Sender {
     super({ day, onSend, word, label, inputs: [el('label', {}, 'Kind ', kind), fields], kinds: () => this.kinds.map((one) => one.kind) });
     Object.assign(this, { flight, runways, kind, fields, inputs: [] });
     kind.addEventListener('change', () => this.choose());
+    fields.addEventListener('input', () => this.unmark());
     if (toScenario) this.button.after(this.adds(toScenario));
     this.offer(kinds, row);
   }
@@ -38,6 +41,7 @@ export class RecordForm extends Sender {
   adds(toScenario) {
     const button = el('button', { type: 'button' }, 'Add to what-if');
     button.addEventListener('click', async () => {
+      if (!this.isWhole()) return;
       const name = await toScenario(this.line.textContent);
       this.answer('Added', `to scenario ${name}; nothing is sent.`, null, true);
       this.reply.append(el('a', { href: '#what-if' }, 'Open the what-if'));
@@ -69,19 +73,21 @@ export class RecordForm extends Sender {
     this.inputs = [];
     this.said = '';
     const nodes = [];
+    this.unmark();
     for (const [at, field] of kind.fields.entries()) {
       if (this.flight && at === 0) continue;
       const id = `${this.id}-${at}`;
-      const hint = [field.form.replace(TIME, `HH:MM UTC (or ${this.day.date.slice(8)} HH:MM)`), field.range].filter(Boolean).join('; ');
+      const hint = HINTS[field.name] ?? [field.form.replace(TIME, `HH:MM UTC (or ${this.day.date.slice(8)} HH:MM)`), field.range].filter(Boolean).join('; ');
       const choices = field.name === 'runway' && this.runways().length ? this.runways() : listed(field.form);
       const value = current(field.name, kind.kind, this.row, this.day.date);
       const input = choices
         ? el('select', { id, name: field.name, 'aria-describedby': `${id}-h` }, ...choices.map((one) => el('option', { value: one }, one)))
         : el('input', { id, name: field.name, size: field.form.includes(TIME) ? 9 : 6, maxlength: 17, autocomplete: 'off', spellcheck: 'false',
-          'aria-describedby': `${id}-h ${this.id}-line`, value });
+          'aria-describedby': `${id}-h ${this.id}-line ${this.id}-reply`, value });
       if (choices && choices.includes(String(value))) input.value = value;
-      this.inputs.push({ input, isTime: field.form.includes(TIME) });
-      nodes.push(el('label', { for: id }, field.name === 'group' ? COLUMNS.group.label.toLowerCase() : field.name), input, el('span', { class: 'hint', id: `${id}-h` }, hint));
+      const label = field.name === 'group' ? COLUMNS.group.label.toLowerCase() : field.name;
+      this.inputs.push({ input, isTime: field.form.includes(TIME), label, hint });
+      nodes.push(el('label', { for: id }, label), input, el('span', { class: 'hint', id: `${id}-h` }, hint));
     }
     this.fields.replaceChildren(...nodes);
     this.isTouched = false;
@@ -97,14 +103,40 @@ export class RecordForm extends Sender {
     return this.inputs.every(({ input }) => input.value.trim());
   }
 
-  /** Puts a kind and its values in, as a proposal. */
+  /** Puts a kind and its values in, as a proposal. One is led to the first box that has none of them, or to the button. */
   propose(kind, ...values) {
     this.kind.value = kind;
     this.choose();
     values.forEach((value, at) => { this.inputs[at].input.value = value; });
-    this.isTouched = true;
+    this.isTouched = values.length === this.inputs.length;
     this.preview();
-    this.button.focus();
+    const { input } = this.inputs[values.length] ?? { input: this.button };
+    input.focus();
+    input.select?.();
+  }
+
+  /** Whether all is filled in. The first box that isn't is marked, with what it takes, and has the focus. */
+  isWhole() {
+    const empty = this.inputs.find(({ input }) => !input.value.trim());
+    if (!empty) return true;
+    const { input, isTime, label, hint } = empty;
+    const { now, date } = this.day;
+    this.answer('Not sent.', isTime ? `Give a time, such as ${hm(now, date)}.` : `Give the ${label}: ${hint}.`, null, false);
+    input.setAttribute('aria-invalid', 'true');
+    input.focus();
+    return false;
+  }
+
+  /** Something else is typed: no box is asked for any more. */
+  unmark() {
+    const marked = this.fields.querySelector('[aria-invalid]');
+    if (!marked) return;
+    marked.removeAttribute('aria-invalid');
+    this.reply.hidden = true;
+  }
+
+  send() {
+    if (this.isWhole()) super.send();
   }
 
   /** What was taken back is what the form has now. */

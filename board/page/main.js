@@ -79,7 +79,7 @@ function part(name, make) {
 }
 const picture = part('picture', ({ Picture }) => new Picture());
 const whatIf = part('whatif', ({ WhatIf }) => new WhatIf({ day, bands, picture, desk, runways, send }));
-const toDo = part('act', ({ Act }) => new Act({ day, moves, desk, warnings, propose })); // what to do about each warning
+const toDo = part('act', ({ Act }) => new Act({ day, moves, desk, runways, warnings, propose })); // what to do about each warning
 desk.toScenario = async (line) => (await whatIf()).add(line);
 const whatIfPanel = {
   open: () => whatIf().then((one) => panels.open === 'what-if' && one.open()),
@@ -360,6 +360,8 @@ const ANSWERED = {
     bands.take(list);
     whatIf.made?.then((one) => one.hint());
     filter.offer(runways(), operators);
+    flight.warned(); // another runway may answer a warning
+    toDo.made?.then((one) => one.changed());
   },
   log: (list) => showRecords($('#s-records'), list),
   causes(list) {

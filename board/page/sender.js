@@ -21,7 +21,7 @@ export class Sender {
     this.line = el('code');
     [this.button, this.note] = sender(`${this.id}-why`, word);
     this.button.setAttribute('aria-describedby', `${this.id}-why ${this.id}-effect`);
-    this.reply = el('p', { class: 'reply', tabindex: -1, hidden: true });
+    this.reply = el('p', { class: 'reply', id: `${this.id}-reply`, tabindex: -1, hidden: true });
     this.effect = new Effect(day, `${this.id}-effect`);
     [this.back, this.backNote] = sender(`${this.id}-back-why`, '');
     this.back.setAttribute('aria-describedby', `${this.id}-back-why ${this.id}-back`);
@@ -150,12 +150,13 @@ export class Sender {
     this.answer('Refused,', `${words.replace(/[.]?$/, '.')} Nothing is changed.`, reply, false);
   }
 
-  /** The reply, below the form; it gets the focus, so that it is read. */
+  /** The reply, below the form, in place of the one before; it gets the focus, so that it is read, and is in sight. */
   answer(word, words, reply, isGood) {
     this.reply.replaceChildren(el('b', {}, word), ` ${words} `, reply ? el('small', {}, `record ${reply.position}, ${reply.at.slice(11, 19)}`) : '');
     this.reply.classList.remove('asks');
     this.reply.classList.toggle('good', isGood);
     this.reply.hidden = false;
     this.reply.focus({ preventScroll: true });
+    this.reply.scrollIntoView({ block: 'nearest' });
   }
 }

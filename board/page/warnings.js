@@ -18,21 +18,39 @@ const LEFT = ['OVERDUE', 'MISSED', 'SHUT'];
 /** The order of what there is to do: what is to be acted on now, then flights that have left their stand, then the rest. */
 export const urgency = (kind) => (ACT.includes(kind) ? 0 : LEFT.includes(kind) ? 1 : 2);
 
-/** What a blocked flight lacks, by its rule. */
-const LACKS = { TOBT: 'Send its TOBT.', RUNWAY: 'Send its runway (RWY).', EXOT: 'Its stand has no taxi time to this runway: send TAXI, RWY or STAND.' };
+/** What a blocked flight lacks, by its rule: for who may send it, and for who has to ask. */
+const LACKS = {
+  TOBT: (may) => (may('TOBT') ? 'Send its TOBT.' : 'Ask its operator for its TOBT.'),
+  RUNWAY: (may) => (may('RWY') ? 'Send its runway (RWY).' : 'Ask the tower for its runway.'),
+  EXOT: () => 'Its stand has no taxi time to this runway: send TAXI, RWY or STAND.',
+};
 
 /** What frees a flight that has no minute in its CTOT window. */
-const FREES = { CTOT: 'Send an earlier TOBT.', CLOSURE: 'Open the runway (OPEN), or send another one (RWY).', RATE: 'PRIO puts it ahead of those that have its minutes.' };
+const FREES = {
+  CTOT: (may) => (may('TOBT') ? 'Send an earlier TOBT.' : 'Ask its operator for an earlier TOBT.'),
+  CLOSURE: (may) => (may('OPEN') ? 'Open the runway (OPEN), or send another one (RWY).' : 'Ask the tower to open the runway, or for another one.'),
+  RATE: () => 'PRIO puts it ahead of those that have its minutes.',
+};
+
+/** The kinds of records that can free a blocked flight, by its rule. Of one whose CTOT window ends before it is ready no priority does, and no runway by itself. */
+const CAN_FREE = { TOBT: ['TOBT'], RUNWAY: ['RWY'], EXOT: ['RWY', 'STAND'], HORIZON: ['TOBT'], CTOT: ['TOBT', 'CTOT'], CLOSURE: ['TOBT', 'RWY', 'CTOT'] };
+const ALL_THAT_FREE = ['TOBT', 'RWY', 'CTOT', 'PRIO'];
+
+/** What to do about a blocked flight. */
+function freeing(one, at, may) {
+  if (LACKS[one.rule]) return LACKS[one.rule](may);
+  if (!one.ctot) return `${FREES.CTOT(may).replace(/[.]$/, '')}, or ${may('OPEN') ? 'open the runway (OPEN)' : 'the tower to open the runway'}.`;
+  return `${(FREES[one.rule] ?? FREES.RATE)(may)} Or ${may('CTOT') ? 'send' : 'ask the Network Manager for'} a later CTOT than ${at(one.ctot)}.`;
+}
 
 /**
  * Each kind: its facts in the strip, and for the flight's panel what it means, what to do, the kinds of records that answer it, and the time
  * that one of them begins with.
  */
 const KINDS = {
-  BLOCKED: { facts: (one) => one.rule ?? '', answers: ['TOBT', 'RWY', 'STAND', 'CTOT', 'PRIO'],
+  BLOCKED: { facts: (one) => one.rule ?? '', answers: (one) => CAN_FREE[one.rule] ?? ALL_THAT_FREE,
     means: (one) => (LACKS[one.rule] ? `It has no start-up time, as it lacks what ${one.rule} asks for.` : `It has no start-up time: ${one.rule} leaves it no minute.`),
-    act: (one, at) => LACKS[one.rule] ?? (one.ctot ? `${FREES[one.rule] ?? FREES.RATE} Or ask the Network Manager for a later CTOT than ${at(one.ctot)}.`
-      : 'Send an earlier TOBT, or open the runway (OPEN).') },
+    act: freeing },
   OVERDUE: { facts: (one, at) => `TTOT ${at(one.ttot)}`, answers: ['AIR'], time: (one) => one.ttot,
     means: (one, at) => `It left its stand, its TTOT ${at(one.ttot)} is more than 5 minutes ago, and no AIR has come.`,
     act: 'If it has taken off, send AIR with its take-off time; if it hasn’t, ask where it is.' },
@@ -44,7 +62,7 @@ const KINDS = {
     act: 'See that it isn’t late. PRIO puts it further ahead; a later CTOT gives it room.' },
   PAST: { facts: (one, at) => `TSAT ${at(one.time)}`, answers: ['OFF', 'TOBT'],
     means: () => 'It could have started up before now, and hasn’t left its stand: its TSAT is moved on with each CLOCK.',
-    act: 'If it has left, send OFF with its off-block time; if it isn’t ready, send the TOBT at which it will be.' },
+    act: (one, at, may) => `${may('OFF') ? 'If it has left, send OFF with its off-block time' : 'Ask whether it has left'}; if it isn’t ready, ${may('TOBT') ? 'send' : 'ask its operator for'} the TOBT at which it will be.` },
   AHEAD: { facts: (one, at) => at(one.time), answers: ['AIR'],
     means: (one, at) => `It is said to have left at ${at(one.time)}, more than 2 minutes after NOW.`,
     act: 'See whether CLOCK has stopped. A wrong OFF or AIR can’t be taken back.' },
@@ -66,12 +84,27 @@ const keyOf = (one) => `${one.kind} ${one.flight ?? `${one.runway} ${one.time}`}
 /** The warnings that are shown, for the flight's panel; `told` says when they are others. */
 export const current = Object.assign(new EventTarget(), { list: [] });
 
-/** What warnings mean, what to do, and which kinds of records answer them, with a time where it is known. */
-export function explained(list, date) {
-  const at = (time) => hm(time, date);
+/** What a record that answers a warning begins with, as one types it: a time that is known, another runway, a smaller priority number; null: it can't help. */
+function begun(kind, time, { date, row, runways }) {
+  if (kind === 'RWY') {
+    const other = runways.find((name) => name !== row?.runway);
+    return other ? [other] : null;
+  }
+  if (kind === 'PRIO') return row?.priority > 0 ? [String(row.priority - 1)] : null;
+  return time ? [hm(time, date)] : [];
+}
+
+/**
+ * What warnings of a flight mean, what to do, and which records answer them, with the values that are known. of: the date, the flight's row, the
+ * airport's runways, and may(kind): whether the desk may send such a record of it.
+ */
+export function explained(list, of) {
+  const at = (time) => hm(time, of.date);
   return list.map((one) => {
     const { means, act, answers, time = () => null } = kindOf(one.kind);
-    return { kind: one.kind, means: means(one, at), act: typeof act === 'string' ? act : act(one, at), answers: answers.map((kind) => ({ kind, time: time(one) })) };
+    const kinds = (typeof answers === 'function' ? answers(one) : answers).filter(of.may);
+    return { kind: one.kind, means: means(one, at), act: typeof act === 'string' ? act : act(one, at, of.may),
+      answers: kinds.map((kind) => ({ kind, values: begun(kind, time(one), of) })).filter(({ values }) => values) };
   });
 }
 

@@ -1,14 +1,15 @@
 // What-if: a box for scenarios, their comparison, what moves, and the picture of both. Nothing of it changes the day.
-import { DelayByCause, causesOf, comparison } from './beside.js';
+import { DelayByCause, best, causesOf, comparison } from './beside.js';
 import { $, el, say } from './dom.js';
-import { findings, signed } from './effect.js';
+import { Effect, findings, signed } from './effect.js';
 import { RecordForm } from './form.js';
 import { turn } from './hold.js';
-import { startUp } from './moves.js';
+import { recordText, startUp } from './moves.js';
 import { Problem, newKey, objects } from './net.js';
 import { sender, whyNot } from './press.js';
 import { sentence } from './records.js';
 import { hm, minutesFrom, typed } from './times.js';
+import { flightOf, undoing } from './undo.js';
 
 const SHORT = /(?<=,)(\d\d )?\d\d:\d\d(?=,|\s*$)/gm; // a time without its day
 const WHOLE = /\d{4}-\d\d-\d\dT\d\d:\d\dZ/g;
@@ -34,7 +35,7 @@ class ScenarioForm extends RecordForm {
   }
 
   send() {
-    this.answer('Added', `to scenario ${this.onSend(this.line.textContent)}; nothing is sent.`, null, true);
+    if (this.isWhole()) this.answer('Added', `to scenario ${this.onSend(this.line.textContent)}; nothing is sent.`, null, true);
   }
 }
 
@@ -53,9 +54,17 @@ export class WhatIf {
     Object.assign(this.sends, { type: 'button', id: 'wi-send', hidden: true });
     this.sent = el('p', { class: 'reply', id: 'wi-sent', tabindex: -1, hidden: true });
     this.sending = { id: 'what-if', root: this.sent, told: (order) => this.told(order) };
+    this.works = el('p', { class: 'hint', id: 'wi-works', role: 'status' });
+    [this.back, this.backNote] = sender('wi-back-why', '');
+    Object.assign(this.back, { type: 'button', id: 'wi-back' });
+    this.back.classList.add('back');
+    this.backEffect = new Effect(day, 'wi-back-effect');
+    this.undo = el('div', { class: 'undo', hidden: true }, this.back, this.backEffect.root, this.backNote);
     $('#scenario-h').after(this.link);
-    $('#h-wm').before(this.sends, this.note, this.sent, this.against, this.axis, this.causes.root);
-    this.sends.addEventListener('click', () => this.send());
+    $('#wi-fault').before(this.works);
+    $('#h-wm').before(this.sends, this.note, this.sent, this.undo, this.against, this.axis, this.causes.root);
+    this.sends.addEventListener('click', () => this.send(this.recordsOf(this.compared)));
+    this.back.addEventListener('click', () => this.send({ from: null, lines: this.backLines }));
     this.box.addEventListener('input', () => this.keep());
     this.recall();
     $('#b-pictures').addEventListener('click', async () => (await this.picture()).show(this.names.length ? this.text : '', this.names));
@@ -143,36 +152,50 @@ export class WhatIf {
   offer(name) {
     const { lines } = this.recordsOf(name);
     Object.assign(this, { compared: name });
-    this.sent.hidden = true;
+    this.sent.hidden = this.undo.hidden = true;
     this.sends.hidden = !lines.length || !lines.every((line) => this.desk.maySend(line));
     say(this.sends, `Send ${lines.length === 1 ? 'this record' : `these ${lines.length} records`} of ${name}`);
   }
 
-  /** They are tried first: if one of them would be refused now, none is sent. */
-  async send() {
-    const { from, lines } = this.recordsOf(this.compared);
+  /** They are tried first: if one of them would be refused now, none is sent. `from`: the line before them in what is written; null: they take others back. */
+  async send({ from, lines }) {
     if (whyNot()) {
       this.answer('Not sent.', whyNot(), false);
       return;
     }
-    this.sends.disabled = true;
+    this.sends.disabled = this.back.disabled = true;
+    this.out = { lines, isBack: from === null, backs: lines.map((line) => undoing(line, this.day.rows.get(flightOf(line, this.day)) ?? null)) };
     try {
       const [first] = await findings(`SCENARIO,${this.compared}\n${lines.join('\n')}\n`);
-      if (first) this.answer('Not sent.', `Line ${from + first.line - 1}: ${first.sentence}. None of them is sent.`, false);
+      if (first) this.answer('Not sent.', `${from === null ? recordText(lines[first.line - 2] ?? '') : `Line ${from + first.line - 1}`}: ${first.sentence}. None of them is sent.`, false);
       else this.onSend(this.sending, lines.join('\n'), newKey());
     } catch (problem) {
       if (!(problem instanceof Problem)) throw problem;
       this.answer('Not sent.', `${problem.message}.`, false);
     } finally {
-      this.sends.disabled = false;
+      this.sends.disabled = this.back.disabled = false;
     }
+  }
+
+  /** All of them were taken: which, and what takes them back, the last one first. */
+  taken({ position }) {
+    const { lines, isBack, backs } = this.out;
+    this.sends.hidden = true;
+    const known = [...new Set(backs.filter(Boolean).reverse())];
+    const others = lines.filter((line, at) => !backs[at]);
+    const words = others.length && known.length ? ` What takes back ${others.map(recordText).join(', ')} isn’t known here; of the others: ${known.map(recordText).join(', ')}.` : '';
+    this.answer(isBack ? 'Taken back.' : 'Accepted.', `All of them, up to record ${position}: ${lines.map(recordText).join(', ')}.${words}`, true);
+    this.backLines = known;
+    this.undo.hidden = others.length > 0 || !known.every((line) => this.desk.maySend(line));
+    say(this.back, `Take back: ${known.map(recordText).join(', ')}`);
+    if (this.undo.hidden) this.backEffect.clear();
+    else this.backEffect.of(known, null, 0);
   }
 
   /** What became of them. */
   async told({ word, reply, detail }) {
     if (word === 'taken') {
-      this.sends.hidden = true;
-      this.answer('Accepted.', `All of them, up to record ${reply.position}.`, true);
+      this.taken(reply);
     } else if (word === 'refused') {
       this.answer('Refused,', `record ${reply.position}: ${(await sentence(reply.position)).replace(/[.]?$/, '.')} The others are in the log.`, false);
     } else {
@@ -185,6 +208,7 @@ export class WhatIf {
     this.sent.classList.toggle('good', isGood);
     this.sent.hidden = false;
     this.sent.focus({ preventScroll: true });
+    this.sent.scrollIntoView({ block: 'nearest' });
   }
 
   /** How a scenario is written, with a runway and the date of this day. */
@@ -225,18 +249,22 @@ export class WhatIf {
     return this.box.value.split('\n').map((line) => /^SCENARIO,([A-Z0-9-]{1,16})\s*$/.exec(line)?.[1]).filter(Boolean);
   }
 
-  /** Compares them; `name` is the scenario whose flights are shown. */
-  async compare(name = this.names.includes(this.compared) ? this.compared : this.names[0]) {
+  /** Compares them; `name` is the scenario whose flights are shown: the best one, if none is chosen. */
+  async compare(name = null) {
     const number = this.asked += 1;
     const body = this.text;
     this.fault('');
-    if (!name) return this.fault('A scenario begins with a line SCENARIO,NAME.');
+    if (!this.names.length) return this.fault('A scenario begins with a line SCENARIO,NAME.');
+    say(this.works, 'Comparing …');
     try {
-      const found = await comparison(body, name, this.base.value || null);
-      if (number === this.asked) await this.show(found, name, body, number);
+      const shown = name ?? (this.names.length > 1 ? await best(body) : null) ?? this.names[0];
+      const found = number === this.asked && await comparison(body, shown, this.base.value || null);
+      if (number === this.asked) await this.show(found, shown, body, number);
     } catch (problem) {
       if (!(problem instanceof Problem)) throw problem;
       if (number === this.asked) await this.failed(problem, body);
+    } finally {
+      if (number === this.asked) say(this.works, '');
     }
   }
 

@@ -31,7 +31,7 @@ def test_the_effect_of_a_record_before_it_goes_out(page):
     shown.until("return document.querySelector('#f-later button') !== null")
     assert shown.js(ASKED) == 0 and not shown.find("#p-flight .effect").is_displayed()
     shown.type("#p-flight form [name=time]", "0620")
-    shown.says("#p-flight .effect", "Its effect: start-up 06:20 (now 06:00), moves 1 other flight; −5 min of delay in all.")
+    shown.says("#p-flight .effect", "Its effect: start-up 06:20 (was 06:00), moves DLH2; −5 min of delay in all.")
     described = "return document.getElementById(document.querySelector('#p-flight form button').getAttribute('aria-describedby').split(' ')[1]).innerText"
     assert shown.js(described).startswith("Its effect: start-up 06:20")
     shown.type("#p-flight form [name=time]", "06:00")
@@ -52,12 +52,15 @@ def test_the_effect_on_others(page):
     shown.choose("#p-send .fields select", "09")
     shown.type("#p-send [name=from]", "07:00")
     shown.type("#p-send [name=to]", "07:30")
-    shown.says("#p-send .effect", "Its effect: 1 flight loses its CTOT; −13 min of delay in all.")
+    shown.says("#p-send .effect", "Its effect: 1 flight loses its CTOT: AFR4; −13 min of delay in all.")
     shown.choose("#p-send .fields select", "27L")
     shown.type("#p-send [name=from]", "06:10")
     shown.type("#p-send [name=to]", "06:40")
-    # They take off at 06:40, 06:40 and 06:50: 25, 25 and 30 minutes later.
-    shown.says("#p-send .effect", "Its effect: moves 3 flights; +80 min of delay in all.")
+    # They take off at 06:40, 06:40 and 06:50: 25, 25 and 30 minutes later. DLH2 is 35 minutes late then; before, RYR6 alone was late, by 28.
+    shown.says("#p-send .effect", "Its effect: moves 3 flights: BAW3, DLH1, DLH2; +80 min of delay in all; 3 more late; greatest delay 35 min (was 28).")
+    # DLH3 takes off at 06:21, and at 06:50 then: of four that move three have their names.
+    fill(shown.server, {"AP": ["FLT,DLH3,5"], "ATC": ["RWY,DLH3,27L"], "AO": [f"TOBT,DLH3,{at('06:06')}"]})
+    shown.says("#p-send .effect", "Its effect: moves 4 flights: BAW3, DLH1, DLH2 …;")
     shown.choose("#p-send [name=kind]", "PRIO")
     shown.type("#p-send [name=flight]", "ZZ9")
     shown.type("#p-send [name=priority]", "1")
@@ -79,13 +82,13 @@ def test_an_effect_is_old_when_the_day_moves_on(page):
     shown = form_of(page, "GH", "DLH2")
     shown.js(HOLD)
     shown.type("#p-flight form [name=time]", "06:10")
-    shown.says("#p-flight .effect", "Its effect: start-up 06:10 (now 06:05), moves no other flight; −5 min of delay in all.")
+    shown.says("#p-flight .effect", "Its effect: start-up 06:10 (was 06:05), moves no other flight; −5 min of delay in all.")
     position = len(lines(shown))
     shown.server.post(f"TOBT,DLH1,{at('06:20')}", Cdm_Role="AO")
     shown.says("#p-flight .effect", f"That was of record {position}, and the day has moved on: it is asked again.")
     shown.until("return window.go !== undefined")
     shown.js("window.go()")
-    shown.says("#p-flight .effect", "Its effect: start-up 06:10 (now 06:00), moves no other flight.")
+    shown.says("#p-flight .effect", "Its effect: start-up 06:10 (was 06:00), moves no other flight.")
     assert "moved on" not in shown.text("#p-flight .effect")
 
 
@@ -123,7 +126,7 @@ def test_a_record_is_taken_back(page):
     shown.click("#p-flight form button")
     shown.says("#p-flight .reply", "Accepted. 2 flights changed: DLH1, DLH2.")
     assert shown.text("#p-flight .back") == "Take back: TOBT DLH1 06:00"
-    shown.says("#p-flight .undo", "Its effect: start-up 06:00 (now 06:20), moves 1 other flight; +5 min of delay in all.")
+    shown.says("#p-flight .undo", "Its effect: start-up 06:00 (was 06:20), moves DLH2; +5 min of delay in all.")
     shown.click("#p-flight .back")
     shown.says("#p-flight .reply", "Taken back. 2 flights changed: DLH1, DLH2.")
     assert lines(shown)[-2:] == [f"TOBT,DLH1,{at('06:20')}", f"TOBT,DLH1,{at('06:00')}"]
@@ -171,7 +174,7 @@ def test_a_closure_is_taken_back(page):
     shown.click("#p-send form button")
     shown.says("#p-send .reply", "Accepted. 3 flights changed: BAW3, DLH1, DLH2.")
     shown.says("#p-send .undo", "Take back: OPEN 27L 06:10 06:40")
-    shown.says("#p-send .undo", "Its effect: moves 3 flights; −80 min of delay in all.")
+    shown.says("#p-send .undo", "Its effect: moves 3 flights: BAW3, DLH1, DLH2; −80 min of delay in all; 3 fewer late; greatest delay 28 min (was 35).")
     shown.click("#p-send .back")
     shown.says("#p-send .reply", "Taken back. 3 flights changed: BAW3, DLH1, DLH2.")
     assert lines(shown)[-1] == f"OPEN,27L,{at('06:10')},{at('06:40')}"
@@ -230,13 +233,13 @@ def test_a_row_of_what_to_do_for_each_flight(page):
     its CTOT, when it could take off first."""
     shown = left(page)
     shown.click("#warnings [data-panel=act]")
-    shown.until("return document.querySelectorAll('#act > li').length === 2 && document.querySelectorAll('#act button').length === 3")
+    shown.until("return document.querySelectorAll('#act > li').length === 2 && document.querySelectorAll('#act button').length === 1")
     shown.says("#act", "The first free take-off is 07:15, with the start-up 07:00: ask the Network Manager for a CTOT of about that time.")
     blocked, overdue = shown.texts("#act > li")
     assert overdue.startswith("OVERDUE MISSED A2 since before this page was opened; moved last by OFF 05:25, ATC ")
     assert "its TTOT 05:40 is more than 5 minutes ago, and no AIR has come. If it has taken off, send AIR" in overdue and "Tell the Network Manager." in overdue
-    assert blocked.startswith("BLOCKED EZY7 since before this page was opened; moved last by CTOT 06:30, NM ") and "Send an earlier TOBT." in blocked
-    assert shown.texts("#act button") == ["Put RWY into the form of EZY7", "Put PRIO into the form of EZY7", "Put AIR 05:40 into the form of A2"]
+    assert blocked.startswith("BLOCKED EZY7 since before this page was opened; moved last by CTOT 06:30, NM ") and "Ask its operator for an earlier TOBT." in blocked
+    assert shown.texts("#act button") == ["Put AIR 05:40 into the form of A2"]
     assert shown.text("#h-act") == "What to do 2 rows, the most urgent first"
     # A new one says since when; one that has ended goes.
     shown.server.post(f"CTOT,BAW3,{at('05:00')}", Cdm_Role="NM")
@@ -253,22 +256,118 @@ def test_overdue_offers_air_with_its_time(page):
     shown.click("#act button[data-of='A2 AIR']")
     shown.says("#p-flight form code", f"AIR,A2,{at('05:40')}")
     shown.until("return location.hash === '#A2' && document.activeElement === document.querySelector('#p-flight form button')")
-    shown.says("#p-flight .effect", "Its effect: airborne (now off-block), moves no other flight.")
+    shown.says("#p-flight .effect", "Its effect: airborne (was off-block), moves no other flight.")
     assert shown.texts("#f-warnings button")[0] == "Put AIR 05:40 into the form"
     assert f"AIR,A2,{at('05:40')}" not in lines(shown)
     shown.click("#p-flight form button")
     shown.says("#h-f", "airborne")
 
 
+def test_a_record_that_lacks_a_value_is_not_sent(page):
+    """BAW3 could have started up at 06:00, and it is 06:10. Its button leads to the empty box, in which one types at once; Enter in it says what it takes."""
+    shown = page()
+    fill(shown.server, {"ATC": [f"CLOCK,{at('06:10')}"]})
+    size(shown.driver, 1280, 500)
+    shown.open("#BAW3")
+    shown.choose("#role", "ATC")
+    shown.until("return document.querySelectorAll('#f-warnings button').length === 1 && document.querySelector('#p-flight form') !== null")
+    before = lines(shown)
+    shown.click("#f-warnings button")
+    shown.says("#p-flight form code", "OFF,BAW3,")
+    assert shown.js("return document.activeElement.name") == "time"
+    shown.keys(Keys.ENTER)
+    shown.says("#p-flight .reply", "Not sent. Give a time, such as 06:10.")
+    box = "const one = document.querySelector('#p-flight form [name=time]'); return [one.getAttribute('aria-invalid'), one === document.activeElement]"
+    described = "return document.activeElement.getAttribute('aria-describedby').split(' ').map((id) => document.getElementById(id).innerText).at(-1)"
+    assert shown.js(box) == ["true", True] and shown.js(described) == "Not sent. Give a time, such as 06:10."
+    assert lines(shown) == before
+    shown.keys("0605")
+    assert shown.js(box) == [None, True] and not shown.find("#p-flight .reply").is_displayed()
+    shown.says("#p-flight .effect", "Its effect: off-block")
+    shown.keys(Keys.ENTER)
+    shown.says("#p-flight .reply", "Accepted.")
+    assert lines(shown) == [*before, f"OFF,BAW3,{at('06:05')}"]
+    # The reply is in sight, in the window and in its panel.
+    seen = """const [one, panel] = ['#p-flight .reply', '#p-flight'].map((place) => document.querySelector(place).getBoundingClientRect());
+        return one.top >= panel.top && one.bottom <= Math.min(panel.bottom, innerHeight)"""
+    assert shown.js(seen)
+
+
+def test_a_value_that_is_no_time_is_asked_for_by_its_name(page):
+    """In the form of a desk and in that of the what-if, where nothing is added either."""
+    shown = form_of(page, "ATC", "DLH1")
+    before = lines(shown)
+    shown.choose("#p-flight form [name=kind]", "PRIO")
+    shown.find("#p-flight form [name=priority]").clear()
+    for button in ("Send", "Add to what-if"):
+        shown.js("[...document.querySelectorAll('#p-flight form button')].find((one) => one.innerText === arguments[0]).click()", button)
+        shown.says("#p-flight .reply", "Not sent. Give the priority: ")
+        assert shown.js("return document.activeElement.name") == "priority"
+        shown.choose("#p-flight form [name=kind]", "OFF")
+        assert not shown.find("#p-flight .reply").is_displayed()
+        shown.choose("#p-flight form [name=kind]", "PRIO")
+        shown.find("#p-flight form [name=priority]").clear()
+    shown.js("location.hash = '#what-if'")
+    shown.until("return document.querySelector('#p-what-if form.send [name=kind]') !== null")
+    shown.click("#p-what-if form.send button")
+    shown.says("#p-what-if form.send .reply", "Not sent. Give the flight: 1 to 7 of A-Z and 0-9.")
+    assert shown.js(READ).strip() == "SCENARIO,NAME" and lines(shown) == before
+
+
 def test_who_may_not_send_has_no_button(page):
     shown = left(page, "#act")
-    shown.until("return document.querySelectorAll('#act button').length === 3")
-    shown.choose("#role", "AP")
-    shown.until("return document.querySelectorAll('#act button').length === 1")
-    assert shown.texts("#act button") == ["Put STAND into the form of EZY7"]
+    shown.says("#act button", "Put AIR 05:40 into the form of A2")
+    shown.choose("#role", "AO")
+    shown.says("#act button", "Put TOBT into the form of EZY7")
+    assert len(shown.texts("#act button")) == 1
     shown.choose("#role", "read only")
     shown.until("return document.querySelectorAll('#act button').length === 0")
     assert len(shown.texts("#act > li")) == 2
+
+
+# AFR4's window is closed; X1 is ready at 06:15, and BAW3 and DLH1 have the places of its window, 06:04 to 06:19. EZY7's window has ended.
+HELD = {"AP": ["FLT,X1,5"], "ATC": ["RWY,X1,27L", f"CLOSE,09,{at('07:00')},{at('07:30')}"], "AO": [f"TOBT,X1,{at('06:00')}"], "NM": [f"CTOT,X1,{at('06:09')}"]}
+
+
+def test_what_cannot_help_is_not_offered(page):
+    """No priority where the window is closed or has ended, another runway than its own, and a smaller number. Who may not send is told whom to ask."""
+    shown = page()
+    fill(shown.server, HELD)
+    offered = {"ATC": {"AFR4": ["RWY 27L"], "X1": ["RWY 09", "PRIO 4"], "EZY7": []}, "AO": {"AFR4": ["TOBT"], "X1": ["TOBT"], "EZY7": ["TOBT"]},
+               "NM": {"AFR4": ["CTOT"], "X1": ["CTOT"], "EZY7": ["CTOT"]}}
+    said = {"ATC": "Ask its operator for an earlier TOBT. Or ask the Network Manager for a later CTOT than 06:30.",
+            "AO": "Send an earlier TOBT. Or ask the Network Manager for a later CTOT than 06:30.", "NM": "Ask its operator for an earlier TOBT. Or send a later CTOT than 06:30."}
+    shown.open("#act")
+    for role, flights in offered.items():
+        shown.choose("#role", role)
+        wanted = [f"Put {record} into the form of {name}" for name, records in flights.items() for record in records]
+        shown.until("return [...document.querySelectorAll('#act button')].map((one) => one.textContent).sort().join() === arguments[0]", ",".join(sorted(wanted)))
+        shown.says("#act", said[role])
+    # In the flight's panel it is the same, and the press puts the value into the form.
+    shown.choose("#role", "ATC")
+    shown.js("location.hash = '#X1'")
+    shown.until("return document.querySelectorAll('#f-warnings button').length === 2")
+    shown.says("#p-flight form", "Kind")
+    for record, line in (("RWY 09", "RWY,X1,09"), ("PRIO 4", "PRIO,X1,4")):
+        shown.js("[...document.querySelectorAll('#f-warnings button')].find((one) => one.innerText.includes(arguments[0])).click()", record)
+        shown.says("#p-flight form code", line)
+        assert shown.js("return document.activeElement === document.querySelector('#p-flight form .sends')")
+
+
+def test_the_window_of_a_ctot(page):
+    """From 5 minutes before it to 10 minutes after it, and as TOL says from then on; of a flight that is blocked at it, when it could take off first."""
+    shown = page().open("#AFR4")
+    shown.says("#f-ctot", "CTOT 07:10, window 07:05 to 07:20.")
+    assert "free" not in shown.text("#f-ctot")
+    shown.js("location.hash = '#RYR6'")
+    shown.says("#waits", "CLOSURE")
+    assert not shown.find("#f-ctot").is_displayed()
+    shown.js("location.hash = '#EZY7'")
+    shown.says("#f-ctot", "CTOT 06:30, window 06:25 to 06:40. The first free take-off is 07:15, with the start-up 07:00: ask the Network Manager")
+    assert shown.texts("#waits li") == ["C from 07:15 on CTOT to the end"]
+    shown.server.post("TOL,2,20", Cdm_Role="NM")
+    shown.js("location.hash = '#AFR4'")
+    shown.says("#f-ctot", "CTOT 07:10, window 07:08 to 07:30.")
 
 
 def test_a_runway_is_closed_from_its_own_head(page):
@@ -285,7 +384,7 @@ def test_a_runway_is_closed_from_its_own_head(page):
     shown.type(".band [name=from]", "0700")
     shown.choose(".band [name=length]", "45 min")
     shown.says("form[aria-label='Close runway 09']", f"to 07:45 Close 09 Not now Goes out as CLOSE,09,{at('07:00')},{at('07:45')}")
-    shown.says("form[aria-label='Close runway 09'] .effect", "Its effect: 1 flight loses its CTOT; −13 min of delay in all.")
+    shown.says("form[aria-label='Close runway 09'] .effect", "Its effect: 1 flight loses its CTOT: AFR4; −13 min of delay in all.")
     assert lines(shown) == before
     shown.click("form[aria-label='Close runway 09'] button:not([type])")
     shown.says(".band .reply", "Accepted. This flight changed: AFR4.")
@@ -305,6 +404,35 @@ def test_a_runway_is_closed_from_its_own_head(page):
     shown.says(".band .reply", "Look again. 05:30 is 20 min before NOW, 05:50.")
     shown.choose("#role", "AO")
     shown.until("return document.querySelectorAll('.band h3 button, .band form').length === 0")
+
+
+def test_the_form_of_a_closure(page):
+    """What one types as it opens takes the place of NOW. What is no time is said beside the box, and can't be sent; nor can what was sent already."""
+    shown = page().open()
+    shown.choose("#role", "ATC")
+    shown.until("return document.querySelectorAll('.band h3 button').length === 2")
+    before = lines(shown)
+    form = "form[aria-label='Close runway 09']"
+    state = """return [document.querySelector('.band form .sends:not(.back)').disabled, document.querySelector('.band [name=from]').getAttribute('aria-invalid')]"""
+    shown.click("#rw-09 button")
+    shown.says(form, "to 06:20 Close 09")
+    shown.keys("07")
+    shown.says(form, "From when on? Give a time, such as 05:50.")
+    assert shown.js(state) == [True, "true"]
+    shown.keys(Keys.ENTER)
+    shown.keys("00")
+    shown.says(form, "to 07:30 Close 09 Not now")
+    assert shown.js(state) == [False, None] and lines(shown) == before
+    shown.keys(Keys.ENTER)
+    shown.says(".band .reply", "Accepted.")
+    shown.until("return document.querySelector('.band form .sends:not(.back)').disabled")
+    shown.says(form, "Done")
+    shown.click(".band .back")
+    shown.says(".band .reply", "Taken back.")
+    shown.until("return document.querySelector('.band form .sends:not(.back)').disabled")
+    shown.choose(".band [name=length]", "45 min")
+    shown.until("return !document.querySelector('.band form .sends:not(.back)').disabled")
+    assert lines(shown) == [*before, f"CLOSE,09,{at('07:00')},{at('07:30')}", f"OPEN,09,{at('07:00')},{at('07:30')}"]
 
 
 @pytest.mark.parametrize("width", [320, 1280, 3840])
@@ -354,7 +482,7 @@ def test_a_what_if_is_made_by_the_same_form(page):
     shown.choose("#p-what-if form.send [name=kind]", "TOBT")
     shown.type("#p-what-if form.send [name=flight]", "DLH1")
     shown.type("#p-what-if form.send [name=time]", "0620")
-    shown.says("#p-what-if form.send .effect", "Its effect: start-up 06:20 (now 06:00), moves 1 other flight; −5 min of delay in all.")
+    shown.says("#p-what-if form.send .effect", "Its effect: start-up 06:20 (was 06:00), moves DLH2; −5 min of delay in all.")
     shown.click("#p-what-if form.send button")
     shown.says("#p-what-if form.send .reply", "Added to scenario A; nothing is sent.")
     assert shown.js(READ) == "SCENARIO,A\nRWY,RYR6,27L\nTOBT,DLH1,06:20\n"
@@ -392,9 +520,26 @@ def test_the_records_of_a_scenario_are_sent_at_once(page):
     what_if(shown, SWAP)
     assert shown.text("#wi-send") == "Send these 2 records of SWAP" and lines(shown) == before
     shown.click("#wi-send")
-    shown.says("#wi-sent", "Accepted. All of them, up to record ")
+    shown.says("#wi-sent", f"Accepted. All of them, up to record {len(before) + 2}: PRIO DLH2 1, RWY RYR6 27L.")
     assert lines(shown) == [*before, "PRIO,DLH2,1", "RWY,RYR6,27L"]
     assert len({record["at"] for record in shown.server.records()[-2:]}) == 1 and not shown.find("#wi-send").is_displayed()
+    # They are taken back at once too, the last one first, with their effect before: RYR6 is 28 minutes late again, as it was.
+    assert shown.text("#wi-back") == "Take back: RWY RYR6 09, PRIO DLH2 5"
+    shown.says("#wi-back-effect", "+28 min of delay in all")
+    shown.click("#wi-back")
+    shown.says("#wi-sent", f"Taken back. All of them, up to record {len(before) + 4}: RWY RYR6 09, PRIO DLH2 5.")
+    assert lines(shown)[-2:] == ["RWY,RYR6,09", "PRIO,DLH2,5"]
+
+
+def test_records_that_cannot_all_be_taken_back(page):
+    """A RATE was another one before, which the page doesn't know: it says so, and what takes back the other."""
+    shown = page().open()
+    shown.choose("#role", "ATC")
+    shown.until("return document.querySelector('#b-send').hidden === false")
+    what_if(shown, f"SCENARIO,A\nRATE,27L,{at('07:00')},{at('07:10')},1\nPRIO,DLH2,1")
+    shown.click("#wi-send")
+    shown.says("#wi-sent", "RATE 27L 07:00 07:10 1, PRIO DLH2 1. What takes back RATE 27L 07:00 07:10 1 isn’t known here; of the others: PRIO DLH2 5.")
+    assert not shown.find("#wi-back").is_displayed()
 
 
 def test_records_of_a_scenario_are_tried_first(page):

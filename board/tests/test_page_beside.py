@@ -109,6 +109,17 @@ def test_a_comparison_stays_as_the_day_moves_on(page):
     assert shown.js("return document.activeElement.id") == "wi-head"
 
 
+def test_the_best_one_is_shown(page):
+    """It is written last; it opens 09 sooner, and the other one closes 27L. It is said that they are compared, until all is there."""
+    shown = page().open()
+    shown.js(MEANWHILE)
+    what_if(shown, f"SCENARIO,WORSE\nCLOSE,27L,{at('06:10')},{at('06:40')}\nSCENARIO,BETTER\n{OPEN}\n")
+    assert shown.text("#wi-table .chosen th") == "BETTER" and shown.texts("#wi-flights th") == ["RYR6"]
+    assert shown.text("#wi-works") == "Comparing …"
+    shown.until("window.go?.(); return document.querySelector('#wi-works').textContent === ''")
+    assert shown.texts("#wi-causes tbody th") == ["day", "WORSE", "BETTER", "difference"]
+
+
 def test_of_many_scenarios_four_are_beside_each_other(page):
     """Among them the one that is chosen."""
     shown = page().open()

@@ -38,7 +38,7 @@ def test_a_window_that_is_closed(page):
     shown.open("#AFR4")
     shown.says("#waits", "CLOSURE")
     assert shown.texts("#waits li")[:2] == ["C 06:52–07:04 CTOT 13 min", "X 07:05–07:20 CLOSURE 16 min"]
-    assert shown.texts("#waits li")[2].startswith("C 07:21–11 23:59 CTOT")
+    assert shown.texts("#waits li")[2] == "C from 07:21 on CTOT to the end"
     assert shown.text("#wait-ends") == "06:52 TOBT + EXOT · 59 minutes are drawn"
 
 

@@ -121,11 +121,11 @@ def test_a_card_says_the_effect_of_its_tobt(page):
     before = len(shown.server.records("atc"))
     for _ in range(2):
         shown.click(f'{card} [aria-label="TOBT 10 minutes later"]')
-    shown.says(f"{card} .effect", "Its effect: start-up 06:20 (now 06:00), moves 1 other flight; −5 min of delay in all.")
+    shown.says(f"{card} .effect", "Its effect: start-up 06:20 (was 06:00), moves DLH2; −5 min of delay in all.")
     assert len(shown.server.records("atc")) == before and not shown.find(f"{card} .hint").is_displayed()
     shown.click(f"{card} form button:not([type])")
     shown.says(f"{card} .reply", "Accepted. Start-up 06:20.")
-    shown.says(f"{card} .undo", "Take back: TOBT DLH1 06:00 Its effect: start-up 06:00 (now 06:20), moves 1 other flight; +5 min of delay in all.")
+    shown.says(f"{card} .undo", "Take back: TOBT DLH1 06:00 Its effect: start-up 06:00 (was 06:20), moves DLH2; +5 min of delay in all.")
     for rule in (TARGETS, CLIPPED, BROKEN, TOKENS):
         assert shown.js(rule) == []
     shown.click(f"{card} .back")
