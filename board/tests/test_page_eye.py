@@ -601,10 +601,12 @@ def test_a_new_warning_of_a_cell_says_its_time_in_short(page):
 
 
 def test_buttons_of_a_warning_keep_apart(page):
+    """KLM5 is blocked by RATE within its window: another runway may help it, and a smaller priority number."""
     shown = page()
+    fill(shown.server, {"ATC": [f"RATE,27L,{at('06:00')},{at('06:30')},1"], "AO": [f"TOBT,KLM5,{at('06:00')}"], "NM": [f"CTOT,KLM5,{at('06:09')}"]})
     for width in (320, 1280, 3840):
         size(shown.driver, width, 900)
-        shown.open("#EZY7")
+        shown.open("#KLM5")
         shown.js("const role = document.querySelector('#role'); role.value = 'ATC'; role.dispatchEvent(new Event('change'))")
         shown.until("return document.querySelectorAll('#f-warnings button').length >= 2")
         boxes = shown.js("""return [...document.querySelectorAll('#f-warnings button')].map((button) => button.getBoundingClientRect())
@@ -619,17 +621,21 @@ def test_a_blocked_flight_is_told_what_frees_it(page):
     fill(shown.server, {"ATC": [f"CLOSE,09,{at('07:00')},{at('07:30')}", f"RATE,27L,{at('06:00')},{at('06:30')},1"],
                         "AO": [f"TOBT,KLM5,{at('06:00')}"], "NM": [f"CTOT,KLM5,{at('06:09')}"]})
     shown.open()
-    for name, words in (("EZY7", "Send an earlier TOBT. Or ask the Network Manager for a later CTOT than 06:30."),
-                        ("AFR4", "Open the runway (OPEN), or send another one (RWY). Or ask the Network Manager for a later CTOT than 07:10."),
-                        ("KLM5", "PRIO puts it ahead of those that have its minutes. Or ask the Network Manager for a later CTOT than 06:09.")):
-        shown.js("location.hash = arguments[0]", f"#{name}")
-        shown.says("#f-warnings", words)
+    ask, open_it, tower = "Ask its operator for an earlier TOBT.", "Open the runway (OPEN), or send another one (RWY).", "Ask the tower to open the runway, or for another one."
+    said = {"read only": (ask, tower), "ATC": (ask, open_it), "AO": ("Send an earlier TOBT.", tower)}
+    for role, (of_ctot, of_closure) in said.items():
+        shown.choose("#role", role)
+        for name, words in (("EZY7", f"{of_ctot} Or ask the Network Manager for a later CTOT than 06:30."),
+                            ("AFR4", f"{of_closure} Or ask the Network Manager for a later CTOT than 07:10."),
+                            ("KLM5", "PRIO puts it ahead of those that have its minutes. Or ask the Network Manager for a later CTOT than 06:09.")):
+            shown.js("location.hash = arguments[0]", f"#{name}")
+            shown.says("#f-warnings", words)
 
 
 def test_a_link_to_a_flight_has_its_form(page):
     """The kinds of records are there before the plan is: the form is made when the flight is."""
     shown = page().open()
-    shown.choose("#role", "ATC")
+    shown.choose("#role", "AO")
     shown.until("return document.querySelector('#b-send').hidden === false")
     script = shown.driver.execute_cdp_cmd("Page.addScriptToEvaluateOnNewDocument", {"source": """const real = window.fetch;
         const came = new Promise((go) => { window.came = go; });
@@ -643,7 +649,7 @@ def test_a_link_to_a_flight_has_its_form(page):
         shown.open("#EZY7")
         shown.says("#p-flight form", "Kind")
         shown.click("#f-warnings button")
-        shown.says("#p-flight form code", "RWY,EZY7,")
+        shown.says("#p-flight form code", "TOBT,EZY7,")
     finally:
         shown.driver.execute_cdp_cmd("Page.removeScriptToEvaluateOnNewDocument", {"identifier": script["identifier"]})
 

@@ -80,7 +80,7 @@ def test_what_has_the_focus_is_in_sight(page, width, height):
     shown = page()
     size(shown.driver, width, height)
     shown.open()
-    shown.choose("#role", "ATC")
+    shown.choose("#role", "AO")
     shown.until("return document.querySelector('#b-send').hidden === false")
     shown.js("location.hash = '#EZY7'")
     shown.says("#p-flight form", "Kind")
