@@ -75,7 +75,7 @@ function moves(list, flight) {
 function inAll(base, then) {
   const late = then.late - base.late;
   return [then.delay !== base.delay && `${signed(then.delay - base.delay)} min of delay in all`, late !== 0 && `${Math.abs(late)} ${late > 0 ? 'more' : 'fewer'} late`,
-    then.max !== base.max && `greatest delay ${then.max} min (was ${base.max})`];
+    then.max !== base.max && `max delay ${then.max} min (was ${base.max})`];
 }
 
 /** What becomes of the flight itself. */

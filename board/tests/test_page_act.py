@@ -57,7 +57,7 @@ def test_the_effect_on_others(page):
     shown.type("#p-send [name=from]", "06:10")
     shown.type("#p-send [name=to]", "06:40")
     # They take off at 06:40, 06:40 and 06:50: 25, 25 and 30 minutes later. DLH2 is 35 minutes late then; before, RYR6 alone was late, by 28.
-    shown.says("#p-send .effect", "Its effect: moves 3 flights: BAW3, DLH1, DLH2; +80 min of delay in all; 3 more late; greatest delay 35 min (was 28).")
+    shown.says("#p-send .effect", "Its effect: moves 3 flights: BAW3, DLH1, DLH2; +80 min of delay in all; 3 more late; max delay 35 min (was 28).")
     # DLH3 takes off at 06:21, and at 06:50 then: of four that move three have their names.
     fill(shown.server, {"AP": ["FLT,DLH3,5"], "ATC": ["RWY,DLH3,27L"], "AO": [f"TOBT,DLH3,{at('06:06')}"]})
     shown.says("#p-send .effect", "Its effect: moves 4 flights: BAW3, DLH1, DLH2 …;")
@@ -174,7 +174,7 @@ def test_a_closure_is_taken_back(page):
     shown.click("#p-send form button")
     shown.says("#p-send .reply", "Accepted. 3 flights changed: BAW3, DLH1, DLH2.")
     shown.says("#p-send .undo", "Take back: OPEN 27L 06:10 06:40")
-    shown.says("#p-send .undo", "Its effect: moves 3 flights: BAW3, DLH1, DLH2; −80 min of delay in all; 3 fewer late; greatest delay 28 min (was 35).")
+    shown.says("#p-send .undo", "Its effect: moves 3 flights: BAW3, DLH1, DLH2; −80 min of delay in all; 3 fewer late; max delay 28 min (was 35).")
     shown.click("#p-send .back")
     shown.says("#p-send .reply", "Taken back. 3 flights changed: BAW3, DLH1, DLH2.")
     assert lines(shown)[-1] == f"OPEN,27L,{at('06:10')},{at('06:40')}"
