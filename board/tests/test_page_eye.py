@@ -581,14 +581,16 @@ def test_a_date_of_next_stays_with_its_time(page, width):
 
 
 def test_a_date_stays_with_its_time(page):
-    """EZY7 waits from the end of its window to the end of the second day, 11 23:59: that isn't broken before its hour."""
+    """RYR6 waits for a runway that is closed to 00:30 of the second day, so to 11 00:29: that isn't broken before its hour."""
     shown = page()
+    shown.server.post("TOBT,RYR6,2025-03-10T23:45Z", Cdm_Role="AO")
+    shown.server.post("CLOSE,09,2025-03-10T23:50Z,2025-03-11T00:30Z", Cdm_Role="ATC")
     for width in (320, 1280):
         size(shown.driver, width, 900)
-        shown.open("#EZY7")
-        shown.says("#waits", "11 23:59")
+        shown.open("#RYR6")
+        shown.says("#waits", "11 00:29")
         assert shown.js(r"""return [...document.querySelectorAll('#waits li span:nth-child(2)')].map((node) => {
-            const text = node.firstChild, range = document.createRange(), at = text.data.search(/11.23:59/);
+            const text = node.firstChild, range = document.createRange(), at = text.data.search(/11.00:29/);
             if (at < 0) return 0;
             range.setStart(text, at); range.setEnd(text, at + 8);
             return range.getClientRects().length; }).filter(Boolean)""") == [1]
