@@ -1,5 +1,5 @@
 //! Whole runs, from the bytes of files to the bytes of a report.
-use crate::tests::asserts::{assert_found, assert_holds};
+use crate::tests::asserts::assert_holds;
 use crate::tests::devices::{Given, Meeting, Sink, Source, Stop};
 use cdm_feed::{CommonFault, Device, Input, RunCounts, RunError, run};
 use cdm_phase::{Gate, OpenGate, PhaseName, Workers};
@@ -121,6 +121,15 @@ fn meet<R: AllocGlobal + Threads + Sync + Abort>(
     (told, gate.came(), gate.is_missed())
 }
 
+// Whether so many workers, with this phase held, write the report and meet, unless there is one alone.
+fn meets<R: AllocGlobal + Threads + Sync + Abort>(
+    rt: &R,
+    phase: PhaseName,
+    workers: usize,
+) -> bool {
+    meet(rt, phase, workers) == ((Ok((6, 1, 2)), true), [1, 1], workers == 1)
+}
+
 // One worker takes one runway after the other, and one scenario after the other, and more meet.
 #[test]
 fn workers_meet_and_write_one_text(rt: HostRuntime) {
@@ -135,8 +144,7 @@ fn workers_meet_and_write_one_text(rt: HostRuntime) {
         (PhaseName::Scenarios, 64),
     ];
     for (phase, workers) in table {
-        let wanted = ((Ok((6, 1, 2)), true), [1, 1], workers == 1);
-        assert_found(&rt, meet(&rt, phase, workers), wanted, (phase, workers));
+        assert_holds(&rt, meets(&rt, phase, workers), (phase, workers));
     }
 }
 
@@ -158,6 +166,12 @@ fn fault_at<R: AllocGlobal + Threads + Sync + Abort>(
     (answer.err(), is_told)
 }
 
+// Whether a run whose read of this number fails in this input ends with that fault, and without one writes the report.
+fn fails_at<R: AllocGlobal + Threads + Sync + Abort>(rt: &R, input: Input, read: usize) -> bool {
+    let fault = (read > 0).then_some(RunError::Common(CommonFault::Read(input)));
+    fault_at(rt, input, read) == (fault, true)
+}
+
 // A byte comes at a time, and each read in turn fails, the one at the end too.
 #[test]
 fn failing_reads(rt: HostRuntime) {
@@ -168,9 +182,7 @@ fn failing_reads(rt: HostRuntime) {
     ];
     for (input, len) in table {
         for read in 0..=len.saturating_add(1) {
-            let fault = (read > 0).then_some(RunError::Common(CommonFault::Read(input)));
-            let found = fault_at(&rt, input, read);
-            assert_found(&rt, found, (fault, true), (input, read));
+            assert_holds(&rt, fails_at(&rt, input, read), (input, read));
         }
     }
 }
