@@ -22,7 +22,7 @@ def test_in_print(page):
         assert shown.flights("next") and shown.text("#h-f").startswith("RYR6")
         shown.js("location.hash = '#what-if'")
         shown.until("return document.querySelector('#p-what-if').checkVisibility()")
-        assert shown.js(f"{pressed.replace('return ', 'const left = ', 1)}; return left") == []
+        assert shown.js(pressed) == []
     finally:
         shown.driver.execute_cdp_cmd("Emulation.setEmulatedMedia", {"media": ""})
 
