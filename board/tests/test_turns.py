@@ -78,18 +78,18 @@ def test_the_tower_is_answered_while_strangers_ask_at_once(board, path, options,
 
 
 def test_those_who_come_at_once_wait_to_be_let_in(board):
-    """A thousand come while the server is busy; none of them is dropped and has to try again a second later."""
+    """Hundreds come while the server is busy; none of them is dropped and has to try again a second later."""
     server = board(DESKS)
     came = []
     server.process.send_signal(signal.SIGSTOP)
     try:
-        for _ in range(1000):
+        for _ in range(600):
             came.append(socket.create_connection(("127.0.0.1", server.port), timeout=0.9))
     finally:
         server.process.send_signal(signal.SIGCONT)
         for one in came:
             one.close()
-    assert len(came) == 1000
+    assert len(came) == 600
 
 
 def rows(numbers, turns):
