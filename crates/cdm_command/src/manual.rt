@@ -601,8 +601,9 @@ SERVE
   READY    how many records JOURNAL has. A restart leaves out an incomplete last
            line, which a crash left.
   PLAN     the line PLAN asks for the plan, WHY,AB1 for what delays a flight,
-           LOAD,27L for how full a runway is. The reply has the number, the word
-           and how many lines follow, or REFUSED.
+           LOAD,27L for how full a runway is, OPTIONS,AB1 for what could help a
+           flight. The reply has the number, the word and how many lines follow,
+           or REFUSED.
   A line that is longer than 4096 bytes or unterminated is refused with FIELDS.
   At the end of the input the program ends.
 

@@ -5,7 +5,7 @@ use Rattle.std.specs.{Prelude.{⊤, bytes_eq, find, flat_map, is_some}, Cmp.Lexi
 use Rattle.std.specs.Option.{option_map}
 use Rattle.cdm_time.specs.declared.calendar.CalendarDate.{CalendarDate}
 use Rattle.cdm_flight.specs.{Accepted.has_runway, Journal.{AirportRows, flight_of, runway_row}, Names.same_name}
-use Rattle.cdm_flight.specs.declared.{airport.RunwayRow.RunwayRow, word.RefusalWord.RefusalWord}
+use Rattle.cdm_flight.specs.declared.{airport.RunwayRow.RunwayRow, flight.Flight.Flight, word.RefusalWord.RefusalWord}
 use Rattle.cdm_flight.specs.declared.word.RefusalWord.TheVariants as word
 use Rattle.cdm_runway.specs.Rules.{RunwayRules}
 use Rattle.cdm_sequence.{proofs.OrderLemmas.same_flips, specs.declared.plan.Plan.Plan}
@@ -19,14 +19,14 @@ use Rattle.cdm_journal.specs.Lines.{LineRecord, LineRecord.{Blank, One, Several}
 use Rattle.cdm_json.specs.Loads.{AreLoadLines, load_line}
 use Rattle.cdm_json.specs.declared.plan.PlanOf.TheVariants as of
 use Rattle.cdm_port.specs.{Event.Event, Event.Event.{Appended, Broken, End, Line, Replied}, Stop.{IsStopOf, IsTorn}}
-use Rattle.cdm_serve.specs.Requests.{asked_by, flight_asked, request_in, request_of, runway_asked}
+use Rattle.cdm_serve.specs.{Asked.AreOptionsTold, Requests.{asked_by, flight_asked, options_asked, request_in, request_of, runway_asked}}
 use Rattle.cdm_serve.specs.Served.{AreReplies, Exchange, IsHeard, IsReplyTo, IsServed, IsStopped, answered, day_of, left_out, line_of}
 use Rattle.cdm_serve.specs.Served.{numbered, reading, said, served, start_text, started, told_of}
 use Rattle.cdm_serve.specs.{Taken.{TakenRecord, after, day_with, taken}, declared.asked.Asked.Asked}
-use Rattle.cdm_serve.specs.declared.{asked.Asked.TheVariants.{Plan as AskPlan, View}, request.Request.Request}
+use Rattle.cdm_serve.specs.declared.{asked.Asked.TheVariants.{Options as AskOptions, Plan as AskPlan, View}, request.Request.Request}
 use Rattle.cdm_serve.specs.declared.request.Request.TheVariants.{Ask, Nothing, Post}
 use Rattle.cdm_lines.specs.{Lines.{FitsLine, IsLine}, Replies.{AreReplyLines, BeginsLine, RepliesBefore, RepliesLine}}
-use Rattle.cdm_lines.proofs.{AnswerLemmas.{is_load_line, is_plan_line, is_refused_line, is_reply_line, is_why}, Texts.{fits, line_same}}
+use Rattle.cdm_lines.proofs.{AnswerLemmas.{is_load_line, is_plan_line, is_refused_line, is_reply_line, is_why}, OptionLemmas.is_options_reply, Texts.{fits, line_same}}
 use Rattle.cdm_lines.proofs.Values.{small_decimal, small_object}
 
 -- The start.
@@ -95,6 +95,7 @@ AsksOne (Ask AskPlan) = ⊤
 AsksOne (Ask (View (Why name))) = ⊤
 AsksOne (Ask (View (Load None))) = ⊥
 AsksOne (Ask (View (Load (Some name)))) = ⊤
+AsksOne (Ask (AskOptions name)) = ⊤
 AsksOne (Post spelled) = ⊤
 
 counted_one : (wanted count : ℕ) (r : Result Asked RefusalWord) → AsksOne (asked_by r) → AsksOne (asked_by (counted wanted count r))
@@ -107,6 +108,10 @@ counted_one wanted count r one = by (count == wanted)
 flight_one : (r : Result (List ℕ) RefusalWord) → AsksOne (asked_by (of_one (λ flight. View (Why flight)) r))
 flight_one (Ok name) = tt
 flight_one (Err w) = tt
+
+options_one : (r : Result (List ℕ) RefusalWord) → AsksOne (asked_by (of_one (λ flight. AskOptions flight) r))
+options_one (Ok name) = tt
+options_one (Err w) = tt
 
 runway_one : (r : Result (List ℕ) RefusalWord) → AsksOne (asked_by (of_one (λ runway. View (Load (Some runway))) r))
 runway_one (Ok name) = tt
@@ -122,14 +127,23 @@ asks_one day fields =
     let plan = asked_by (counted 1 (length fields) (Ok AskPlan)) in
     let why = asked_by (counted 2 (length fields) (flight_asked (field fields 1))) in
     let load = asked_by (counted 2 (length fields) (runway_asked (field fields 1))) in
+    let options = asked_by (counted 2 (length fields) (options_asked (field fields 1))) in
     let post = Post (parse_of day fields) in
     let says_why = bytes_eq (field fields 0) (codes "WHY") in
     let says_load = bytes_eq (field fields 0) (codes "LOAD") in
+    let says_options = bytes_eq (field fields 0) (codes "OPTIONS") in
     let of_plan : AsksOne plan = counted_one 1 (length fields) (Ok AskPlan) tt in
     let of_why : AsksOne why = counted_one 2 (length fields) (flight_asked (field fields 1)) (flight_one (flight_field (field fields 1))) in
     let of_load : AsksOne load = counted_one 2 (length fields) (runway_asked (field fields 1)) (runway_one (runway_field (field fields 1))) in
-    either_one (bytes_eq (field fields 0) (codes "PLAN")) plan (cond says_why why (cond says_load load post)) of_plan
-    (either_one says_why why (cond says_load load post) of_why (either_one says_load load post of_load tt))
+    let of_options : AsksOne options = counted_one 2 (length fields) (options_asked (field fields 1)) (options_one (flight_field (field fields 1))) in
+    let later = cond says_options options post in
+    let of_later : AsksOne later = either_one says_options options post of_options tt in
+    either_one (bytes_eq (field fields 0) (codes "PLAN")) plan (cond says_why why (cond says_load load later)) of_plan
+    (either_one says_why why (cond says_load load later) of_why (either_one says_load load later of_load of_later))
+
+is_told : (d : DayRecord) (number : ℕ) (known : Option Flight) (text : List ℕ) → AreOptionsTold Json d number known text → IsLine text
+is_told d number known text (inl (refusal, helpless, is)) = line_same text _ is (is_refused_line number refusal)
+is_told d number known text (inr is) = is_options_reply number d known None text is
 
 is_reply : (d : DayRecord) → IsAirport d.airport → (number : ℕ) (request : Request) (text : List ℕ) → AsksOne request → IsReplyTo Json d number request text → IsLine text
 is_reply d airport number Nothing text one is = absurd one
@@ -140,6 +154,7 @@ is_reply d airport number (Ask (View (Why name))) text one (inr (plan, of_day, i
 is_reply d airport number (Ask (View (Load None))) text one is = absurd one
 is_reply d airport number (Ask (View (Load (Some name)))) text one (inl (unknown, is)) = line_same text _ is (is_refused_line number word.Unknown)
 is_reply d airport number (Ask (View (Load (Some name)))) text one (inr (plan, of_day, is)) = is_load d airport (Some number) plan name text is.0 is.1
+is_reply d airport number (Ask (AskOptions name)) text one is = is_told d number (flight_of d.airport d.journal name) text is
 
 -- What happens.
 

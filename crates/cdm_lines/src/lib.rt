@@ -4,6 +4,7 @@
 
 mod answers;
 mod checks;
+mod helped;
 mod kinds;
 mod replies;
 mod shifts;
@@ -15,6 +16,7 @@ pub use answers::{
     values_fit_line, why_fits_line,
 };
 pub use checks::{checks_are_lines, finding_fits_line, hint_fits_line, last_fits_line};
+pub use helped::{options_are_lines, options_reply_fits_line};
 pub use kinds::{kind_fits_line, kinds_are_lines, kinds_are_read_back};
 pub use replies::{
     readers_keep_up, ready_fits_line, replies_are_lines, served_replies_are_lines,

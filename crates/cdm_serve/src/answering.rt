@@ -17,6 +17,7 @@ use cdm_journal::{LineRead, journal_line};
 use cdm_kinds::Format;
 use csv::ByteRecord;
 use std::alloc::{AllocError, Global};
+use std::thread::Threads;
 
 /// What is to be done for a line of the input.
 #[derive(Drop)]
@@ -85,8 +86,9 @@ impl ServedDay {
     /// day as it is. The reply and the journal's line are ready then.
     ///
     /// `TooMany` where the line's number would be greater than a `u32`, and else only `Memory`.
-    pub(crate) fn answer(
+    pub(crate) fn answer<R: Threads + Sync>(
         &mut self,
+        rt: &R,
         alloc: Global,
         format: Format,
         read: &LineRead,
@@ -107,7 +109,7 @@ impl ServedDay {
             }
             Request::Ask(asked) => {
                 let number = self.count()?;
-                let text = asked_text(alloc, format, self.desk.state(), number, asked)?;
+                let text = asked_text(rt, alloc, format, self.desk.state(), number, asked)?;
                 Ok(Answer::Reply(text))
             }
         }

@@ -4,6 +4,7 @@ ghost use Rattle.cdm_json.specs.Records.{refused_line};
 ghost use Rattle.cdm_serve.specs.Asked.{IsAnswerText};
 
 use crate::asked::Asked;
+use crate::options::json_options;
 use cdm_day::DayState;
 use cdm_desk::RowReply;
 use cdm_flight::RefusalWord;
@@ -12,6 +13,7 @@ use cdm_kinds::Format;
 use cdm_row::Rows;
 use cdm_view::{Question, ViewFault};
 use std::alloc::{AllocError, Global};
+use std::thread::Threads;
 
 // The line of the plan.
 fn plan_asked(alloc: Global, state: &DayState, number: u32) -> Result<Vec<u8>, AllocError>
@@ -28,12 +30,17 @@ fn plan_asked(alloc: Global, state: &DayState, number: u32) -> Result<Vec<u8>, A
     )
 }
 
-// The line that refuses a question of what isn't known.
-fn unknown_line(alloc: Global, state: &DayState, number: u32) -> Result<Vec<u8>, AllocError>
-    ensures { IfOk result (λ text. text.items ≡ refused_line number RefusalWord.Unknown) }
+/// The line that refuses a question by a word.
+pub(crate) fn refused_line(
+    alloc: Global,
+    state: &DayState,
+    number: u32,
+    word: RefusalWord,
+) -> Result<Vec<u8>, AllocError>
+    ensures { IfOk result (λ text. text.items ≡ refused_line number word) }
 {
-    let unknown = RowReply::Refused(RefusalWord::Unknown);
-    reply_line(alloc, *state.day(), number, state.journal().len(), &unknown)
+    let refused = RowReply::Refused(word);
+    reply_line(alloc, *state.day(), number, state.journal().len(), &refused)
 }
 
 // The line that answers a view.
@@ -55,13 +62,16 @@ fn view_asked(
     ) {
         Ok(line) => Ok(line),
         Err(ViewFault::Memory) => Err(AllocError),
-        Err(ViewFault::NoFlight(_) | ViewFault::NoRunway(_)) => unknown_line(alloc, state, number),
+        Err(ViewFault::NoFlight(_) | ViewFault::NoRunway(_)) => {
+            refused_line(alloc, state, number, RefusalWord::Unknown)
+        }
     }
 }
 
-/// The reply to the question of this number, on a line of JSON: the plan, or the answer to a view, or the refusal of one that asks
-/// for what isn't known. Only want of memory makes it fail.
-pub(crate) fn json_asked(
+/// The reply to the question of this number, on a line of JSON: the plan, or the answer to a view, or what could help a flight, or the
+/// refusal of what can't be told. Only want of memory makes it fail.
+pub(crate) fn json_asked<R: Threads + Sync>(
+    rt: &R,
     alloc: Global,
     state: &DayState,
     number: u32,
@@ -72,5 +82,6 @@ pub(crate) fn json_asked(
     match asked {
         Asked::Plan => plan_asked(alloc, state, number),
         Asked::View(question) => view_asked(alloc, state, number, question),
+        Asked::Options(flight) => json_options(rt, alloc, state, number, flight),
     }
 }

@@ -7,6 +7,7 @@ mod asked;
 mod asked_json;
 mod fault;
 mod laws;
+mod options;
 mod performing;
 mod posting;
 mod request;

@@ -37,7 +37,8 @@ fn hear<P: Port>(alloc: Global, port: &mut P) -> Result<Option<LineRead>, ServeE
 }
 
 // Serves the lines to the input's end.
-fn serve_lines<P: Port>(
+fn serve_lines<R: Threads + Sync, P: Port>(
+    rt: &R,
     alloc: Global,
     format: Format,
     port: &mut P,
@@ -52,7 +53,7 @@ fn serve_lines<P: Port>(
         let Some(read) = hear(alloc, port)? else {
             return Ok(());
         };
-        let answer = day.answer(alloc, format, &read)?;
+        let answer = day.answer(rt, alloc, format, &read)?;
         perform(port, &answer)?;
     }
     Err(ServeError::TooMany)
@@ -93,5 +94,5 @@ pub fn serve<R: Threads + Sync, P: Port>(
 {
     let state = start(rt, alloc, airport, format, port)?;
     let desk = DeskDay::new(state);
-    serve_lines(alloc, format, port, ServedDay { desk, number: 0 })
+    serve_lines(rt, alloc, format, port, ServedDay { desk, number: 0 })
 }
