@@ -131,15 +131,40 @@ asks_one day fields =
     either_one (bytes_eq (field fields 0) (codes "PLAN")) plan (cond says_why why (cond says_load load post)) of_plan
     (either_one says_why why (cond says_load load post) of_why (either_one says_load load post of_load tt))
 
-is_reply : (d : DayRecord) → IsAirport d.airport → (number : ℕ) (request : Request) (text : List ℕ) → AsksOne request → IsReplyTo Json d number request text → IsLine text
-is_reply d airport number Nothing text one is = absurd one
-is_reply d airport number (Post spelled) text one (reply, of_day, is) = line_same text _ is (is_reply_line d.airport.day number (length (day_after d spelled).journal) reply)
-is_reply d airport number (Ask AskPlan) text one (plan, of_day, is) = is_plan_line d (of.Asked number) plan [] text is
-is_reply d airport number (Ask (View (Why name))) text one (inl (unknown, is)) = line_same text _ is (is_refused_line number word.Unknown)
-is_reply d airport number (Ask (View (Why name))) text one (inr (plan, of_day, is)) = is_why d (Some number) plan (flight_of d.airport d.journal name) text is
-is_reply d airport number (Ask (View (Load None))) text one is = absurd one
-is_reply d airport number (Ask (View (Load (Some name)))) text one (inl (unknown, is)) = line_same text _ is (is_refused_line number word.Unknown)
-is_reply d airport number (Ask (View (Load (Some name)))) text one (inr (plan, of_day, is)) = is_load d airport (Some number) plan name text is.0 is.1
+is_posted : (d : DayRecord) (number : ℕ) (spelled : Result (Role × Update) RefusalWord) (text : List ℕ) → IsRecordText Json d number spelled text → IsLine text
+is_posted d number spelled text (reply, of_day, is) = line_same text _ is (is_reply_line d.airport.day number (length (day_after d spelled).journal) reply)
+
+is_answer : (d : DayRecord) → IsAirport d.airport → (number : ℕ) (asked : Asked) (text : List ℕ) → AsksOne (Ask asked) → IsAnswerText Json d number asked text → IsLine text
+is_answer d airport number AskPlan text one (plan, of_day, is) = is_plan_line d (of.Asked number) plan [] text is
+is_answer d airport number (View (Why name)) text one (inl (unknown, is)) = line_same text _ is (is_refused_line number word.Unknown)
+is_answer d airport number (View (Why name)) text one (inr (plan, of_day, is)) = is_why d (Some number) plan (flight_of d.airport d.journal name) text is
+is_answer d airport number (View (Load None)) text one is = absurd one
+is_answer d airport number (View (Load (Some name))) text one (inl (unknown, is)) = line_same text _ is (is_refused_line number word.Unknown)
+is_answer d airport number (View (Load (Some name))) text one (inr (plan, of_day, is)) = is_load d airport (Some number) plan name text is.0 is.1
+
+-- a refusal with its sentence
+pub explained_fits : (number : ℕ) (word : RefusalWord) (sentence : List ℕ)
+    → FitsLine (object_of (head_members (Some number) (codes "REFUSED") ++ cause_members word sentence))
+explained_fits number word sentence =
+    let members = head_members (Some number) (codes "REFUSED") ++ cause_members word sentence in
+    fits (object_of members)
+    (small_object 3 members
+    (small_decimal 3 number, (small_string 3 (codes "REFUSED"), (small_string 3 (text_of word), (small_string 3 sentence, tt)))))
+
+-- a reply that has a sentence, or is plain
+told_fits : (sentences : Bool) (refusal : Option RefusalWord) (number : ℕ) (IsPlain : List ℕ → Type 0) (text : List ℕ) → (IsPlain text → IsLine text)
+    → IsToldBy sentences refusal Json number IsPlain text → IsLine text
+told_fits true (Some word) number IsPlain text plain is = (_, explained_fits number word is.sentence, is.bytes)
+told_fits true None number IsPlain text plain is = plain is
+told_fits false refusal number IsPlain text plain is = plain is
+
+is_reply : (sentences : Bool) (d : DayRecord) → IsAirport d.airport → (number : ℕ) (request : Request) (text : List ℕ) → AsksOne request
+    → IsReplyTo (json_form sentences) d number request text → IsLine text
+is_reply sentences d airport number Nothing text one is = absurd one
+is_reply sentences d airport number (Post spelled) text one is =
+    told_fits sentences (word_for d spelled) number (IsRecordText Json d number spelled) text (is_posted d number spelled text) is
+is_reply sentences d airport number (Ask asked) text one is =
+    told_fits sentences (word_asked d asked) number (IsAnswerText Json d number asked) text (is_answer d airport number asked text one) is
 
 -- What happens.
 

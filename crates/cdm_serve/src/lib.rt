@@ -6,15 +6,18 @@ mod answering;
 mod asked;
 mod asked_json;
 mod fault;
+mod form;
 mod laws;
 mod performing;
 mod posting;
+mod refusing;
 mod request;
 mod serving;
 mod starting;
 
 pub use asked::Asked;
 pub use fault::ServeError;
+pub use form::ReplyForm;
 pub use laws::served_journal_is_kept;
 pub use request::Request;
 pub use serving::serve;
