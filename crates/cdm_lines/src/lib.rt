@@ -17,8 +17,8 @@ pub use answers::{
 pub use checks::{checks_are_lines, finding_fits_line, hint_fits_line, last_fits_line};
 pub use kinds::{kind_fits_line, kinds_are_lines, kinds_are_read_back};
 pub use replies::{
-    explained_fits_line, readers_keep_up, ready_fits_line, replies_are_lines, served_replies_are_lines,
-    stopped_replies_are_lines,
+    explained_fits_line, readers_keep_up, ready_fits_line, replies_are_lines,
+    served_replies_are_lines, stopped_replies_are_lines,
 };
 pub use shifts::shift_answers_are_lines;
 pub use tables::{
