@@ -154,19 +154,19 @@ explained_fits number word sentence =
     (small_decimal 3 number, (small_string 3 (codes "REFUSED"), (small_string 3 (text_of word), (small_string 3 sentence, tt)))))
 
 -- a reply that has a sentence, or is plain
-told_fits : (sentences : Bool) (refusal : Option RefusalWord) (number : ℕ) (IsPlain : List ℕ → Type 0) (text : List ℕ) → (IsPlain text → IsLine text)
-    → IsToldBy sentences refusal Json number IsPlain text → IsLine text
-told_fits true (Some word) number IsPlain text plain is = (_, explained_fits number word is.sentence, is.bytes)
-told_fits true None number IsPlain text plain is = plain is
-told_fits false refusal number IsPlain text plain is = plain is
+told_fits : (refusal : Option RefusalWord) (sentences : Bool) (number : ℕ) (IsPlain : List ℕ → Type 0) (text : List ℕ) → (IsPlain text → IsLine text)
+    → IsToldBy refusal sentences Json number IsPlain text → IsLine text
+told_fits None sentences number IsPlain text plain is = plain is
+told_fits (Some word) true number IsPlain text plain is = (_, explained_fits number word is.sentence, is.bytes)
+told_fits (Some word) false number IsPlain text plain is = plain is
 
 is_reply : (sentences : Bool) (d : DayRecord) → IsAirport d.airport → (number : ℕ) (request : Request) (text : List ℕ) → AsksOne request
     → IsReplyTo (json_form sentences) d number request text → IsLine text
 is_reply sentences d airport number Nothing text one is = absurd one
 is_reply sentences d airport number (Post spelled) text one is =
-    told_fits sentences (word_for d spelled) number (IsRecordText Json d number spelled) text (is_posted d number spelled text) is
+    told_fits (word_for d spelled) sentences number (IsRecordText Json d number spelled) text (is_posted d number spelled text) is
 is_reply sentences d airport number (Ask asked) text one is =
-    told_fits sentences (word_asked d asked) number (IsAnswerText Json d number asked) text (is_answer d airport number asked text one) is
+    told_fits (word_asked d asked) sentences number (IsAnswerText Json d number asked) text (is_answer d airport number asked text one) is
 
 -- What happens.
 

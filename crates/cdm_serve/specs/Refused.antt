@@ -45,7 +45,7 @@ pub record IsExplained (format : Format) (number : ℕ) (word : RefusalWord) (te
   pub bytes : text ≡ sentence_line format number word sentence
 
 -- the reply of this number, which a word refuses or none: one that refuses has a sentence where sentences are told, and each other is plain
-abbrev pub IsToldBy : Bool → Option RefusalWord → Format → ℕ → (List ℕ → Type 0) → List ℕ → Type 0
-IsToldBy true (Some word) format number IsPlain text = IsExplained format number word text
-IsToldBy true None format number IsPlain text = IsPlain text
-IsToldBy false refusal format number IsPlain text = IsPlain text
+abbrev pub IsToldBy : Option RefusalWord → Bool → Format → ℕ → (List ℕ → Type 0) → List ℕ → Type 0
+IsToldBy None sentences format number IsPlain text = IsPlain text
+IsToldBy (Some word) true format number IsPlain text = IsExplained format number word text
+IsToldBy (Some word) false format number IsPlain text = IsPlain text

@@ -49,8 +49,8 @@ answered d Several reply = told_of (taken d Several) reply
 -- the text replies to a request of this number; where sentences are told, one that a word refuses is replied to with a sentence
 abbrev pub IsReplyTo : ReplyForm → DayRecord → ℕ → Request → List ℕ → Type 0
 IsReplyTo form d number Nothing text = ⊤
-IsReplyTo form d number (Ask asked) text = IsToldBy form.sentences (word_asked d asked) form.format number (IsAnswerText form.format d number asked) text
-IsReplyTo form d number (Post spelled) text = IsToldBy form.sentences (word_for d spelled) form.format number (IsRecordText form.format d number spelled) text
+IsReplyTo form d number (Ask asked) text = IsToldBy (word_asked d asked) form.sentences form.format number (IsAnswerText form.format d number asked) text
+IsReplyTo form d number (Post spelled) text = IsToldBy (word_for d spelled) form.sentences form.format number (IsRecordText form.format d number spelled) text
 
 -- records and questions are numbered together, blank lines aren't
 abbrev pub numbered : ℕ → LineRecord → ℕ

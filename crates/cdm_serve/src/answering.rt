@@ -89,8 +89,9 @@ fn ask_line(
     ensures { IfOk result (λ text. IsReplyTo form state.now number (Request.Ask asked) text.items) }
 {
     match word_asked(state, asked) {
+        None => asked_text(alloc, form.format, state, number, asked),
         Some(word) if form.sentences => explained(alloc, form.format, state, number, read, word),
-        _ => asked_text(alloc, form.format, state, number, asked),
+        Some(_) => asked_text(alloc, form.format, state, number, asked),
     }
 }
 
