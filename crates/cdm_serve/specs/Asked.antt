@@ -1,5 +1,5 @@
 -- Questions of a served day, and their replies.
-use Rattle.std.specs.Prelude.{◌≡◌, ◌⊎◌, ◌==◌, ℕ, false, List, [], ◌∷◌, ◌++◌, codes, count_by, Option, None, Some}
+use Rattle.std.specs.Prelude.{◌≡◌, ◌⊎◌, ◌==◌, ℕ, List, [], ◌∷◌, ◌++◌, codes, count_by, Option, None, Some, if◌then◌else◌}
 use Rattle.std.specs.Fmt.{decimal}
 use Rattle.std.specs.List.{concat}
 use Rattle.std.specs.Option.{IsSome}
@@ -50,18 +50,21 @@ abbrev pub word_at : Status → RefusalWord
 word_at (OffBlock aobt exot) = word.OffBlock
 word_at other = word.Ended
 
--- why it isn't told what could help a flight: it isn't known, or not on its stand any more
-abbrev pub IsHelpless : Option Flight → RefusalWord → Type 0
-IsHelpless None refusal = refusal ≡ word.Unknown
-IsHelpless (Some f) refusal = (is_planned f.status ≡ false) × (refusal ≡ word_at f.status)
+-- the word that refuses to say what could help a flight, if one does: it isn't known, or not on its stand any more
+abbrev pub helpless_by : Option Flight → Option RefusalWord
+helpless_by None = Some word.Unknown
+helpless_by (Some f) = if is_planned f.status then None else Some (word_at f.status)
 
 -- the text replies with what could help a flight, whoever may send it, or with the word that refuses to tell
-abbrev pub AreOptionsTold : Format → DayRecord → ℕ → Option Flight → List ℕ → Type 0
-AreOptionsTold Text d number known text =
-    ((refusal : RefusalWord) × IsHelpless known refusal × (text ≡ reply_text d.airport.day number (Refused refusal)))
-    ⊎ ((body : List ℕ) × IsOptionsText Text d known None body × (text ≡ told_text number (codes "OPTIONS") body))
-AreOptionsTold Json d number known text =
-    ((refusal : RefusalWord) × IsHelpless known refusal × (text ≡ refused_line number refusal)) ⊎ IsOptionsReply number d known None text
+abbrev pub AreOptionsTold : Option RefusalWord → Format → DayRecord → ℕ → Option Flight → List ℕ → Type 0
+AreOptionsTold (Some refusal) Text d number known text = text ≡ reply_text d.airport.day number (Refused refusal)
+AreOptionsTold (Some refusal) Json d number known text = text ≡ refused_line number refusal
+AreOptionsTold None Text d number known text = (body : List ℕ) × IsOptionsText Text d known None body × (text ≡ told_text number (codes "OPTIONS") body)
+AreOptionsTold None Json d number known text = IsOptionsReply number d known None text
+
+-- the same of the flight of this name
+abbrev pub IsHelpTold : Format → DayRecord → ℕ → List ℕ → List ℕ → Type 0
+IsHelpTold format d number name text = AreOptionsTold (helpless_by (flight_of d.airport d.journal name)) format d number (flight_of d.airport d.journal name) text
 
 -- the text replies to a question of this number: the report of the day's plan without refused records, or the answer of a view, or the
 -- same as a line of JSON; UNKNOWN refuses a flight or a runway that isn't there
@@ -70,8 +73,8 @@ IsAnswerText Text d number asked.Plan text = (plan : Plan) × IsDayPlan d plan �
 IsAnswerText Text d number (asked.View q) text =
     (IsUnknown d q × (text ≡ reply_text d.airport.day number (Refused word.Unknown)))
     ⊎ ((plan : Plan) × (body : List ℕ) × IsDayPlan d plan × IsAnswer q d plan body × (text ≡ told_text number (word_of q) body))
-IsAnswerText Text d number (asked.Options name) text = AreOptionsTold Text d number (flight_of d.airport d.journal name) text
+IsAnswerText Text d number (asked.Options name) text = IsHelpTold Text d number name text
 IsAnswerText Json d number asked.Plan text = (plan : Plan) × IsDayPlan d plan × IsPlanLine d (of.Asked number) plan [] text
 IsAnswerText Json d number (asked.View q) text =
     (IsUnknown d q × (text ≡ refused_line number word.Unknown)) ⊎ ((plan : Plan) × IsDayPlan d plan × IsJsonAnswer q d (Some number) plan text)
-IsAnswerText Json d number (asked.Options name) text = AreOptionsTold Json d number (flight_of d.airport d.journal name) text
+IsAnswerText Json d number (asked.Options name) text = IsHelpTold Json d number name text

@@ -9,8 +9,10 @@ use crate::options::told_options;
 use crate::posting::reply_text;
 use cdm_day::DayState;
 use cdm_desk::DeskReply;
+use cdm_files::Lent;
 use cdm_flight::{FlightName, RefusalWord};
 use cdm_kinds::Format;
+use cdm_phase::OpenGate;
 use cdm_report::report_text;
 use cdm_view::{Question, ViewFault, answer};
 use std::alloc::{AllocError, Global};
@@ -82,29 +84,28 @@ fn view_text(
 
 // The reply for people.
 fn text_asked<R: Threads + Sync>(
-    rt: &R,
-    alloc: Global,
+    lent: &Lent<'_, R, OpenGate>,
     state: &DayState,
     number: u32,
     asked: Asked,
 ) -> Result<Vec<u8>, AllocError>
     ensures { IfOk result (λ text. IsAnswerText Format.Text state.now number asked text.items) }
 {
+    let alloc = lent.alloc;
     match asked {
         Asked::Plan => {
             let body = report_text(alloc, state.day(), state.plan(), &[])?;
             told_text(alloc, number, "PLAN", &body)
         }
         Asked::View(question) => view_text(alloc, state, number, &question),
-        Asked::Options(flight) => told_options(rt, alloc, state, number, flight),
+        Asked::Options(flight) => told_options(lent, state, number, flight),
     }
 }
 
 /// The reply to the question of this number: the report of the plan, or the answer to a view, or what could help a flight, or the
 /// refusal of what can't be told. Only want of memory makes it fail.
 pub(crate) fn asked_text<R: Threads + Sync>(
-    rt: &R,
-    alloc: Global,
+    lent: &Lent<'_, R, OpenGate>,
     format: Format,
     state: &DayState,
     number: u32,
@@ -113,7 +114,7 @@ pub(crate) fn asked_text<R: Threads + Sync>(
     ensures { IfOk result (λ text. IsAnswerText format state.now number asked text.items) }
 {
     match format {
-        Format::Text => text_asked(rt, alloc, state, number, asked),
-        Format::Json => json_asked(rt, alloc, state, number, asked),
+        Format::Text => text_asked(lent, state, number, asked),
+        Format::Json => json_asked(lent, state, number, asked),
     }
 }

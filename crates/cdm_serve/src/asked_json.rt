@@ -7,9 +7,11 @@ use crate::asked::Asked;
 use crate::options::json_options;
 use cdm_day::DayState;
 use cdm_desk::RowReply;
+use cdm_files::Lent;
 use cdm_flight::RefusalWord;
 use cdm_json::{PlanOf, json_answer, plan_line, reply_line};
 use cdm_kinds::Format;
+use cdm_phase::OpenGate;
 use cdm_row::Rows;
 use cdm_view::{Question, ViewFault};
 use std::alloc::{AllocError, Global};
@@ -71,8 +73,7 @@ fn view_asked(
 /// The reply to the question of this number, on a line of JSON: the plan, or the answer to a view, or what could help a flight, or the
 /// refusal of what can't be told. Only want of memory makes it fail.
 pub(crate) fn json_asked<R: Threads + Sync>(
-    rt: &R,
-    alloc: Global,
+    lent: &Lent<'_, R, OpenGate>,
     state: &DayState,
     number: u32,
     asked: Asked,
@@ -80,8 +81,8 @@ pub(crate) fn json_asked<R: Threads + Sync>(
     ensures { IfOk result (λ text. IsAnswerText Format.Json state.now number asked text.items) }
 {
     match asked {
-        Asked::Plan => plan_asked(alloc, state, number),
-        Asked::View(question) => view_asked(alloc, state, number, question),
-        Asked::Options(flight) => json_options(rt, alloc, state, number, flight),
+        Asked::Plan => plan_asked(lent.alloc, state, number),
+        Asked::View(question) => view_asked(lent.alloc, state, number, question),
+        Asked::Options(flight) => json_options(lent, state, number, flight),
     }
 }
