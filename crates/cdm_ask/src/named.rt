@@ -20,7 +20,12 @@ impl<'a, F: Read> Model for Named<'a, F> {
     ghost Value = { OpenedFile };
 
     ghost view = { λ n. record {
-        path = option_copied n.path; input = n.input; failed = n.device.failed; given = n.device.passed; left = F.remaining n.device.inner.inner } };
+      path = option_copied n.path;
+      input = n.input;
+      failed = n.device.failed;
+      given = n.device.passed;
+      left = F.remaining n.device.inner.inner;
+    } };
 }
 
 impl<'a, F: Read> Named<'a, F> {

@@ -100,7 +100,11 @@ pub(crate) fn flight_members<'a>(options: &'a Options) -> [Member<'a>; 13]
 
 /// The members of a record that helps, of which this is the text.
 #[tactic(auto, unfolding(crate::specs::Objects::help_members))]
-pub(crate) fn help_members<'a>(before: &Option<Minute>, help: &'a Helping, line: &'a str) -> [Member<'a>; 10]
+pub(crate) fn help_members<'a>(
+    before: &Option<Minute>,
+    help: &'a Helping,
+    line: &'a str,
+) -> [Member<'a>; 10]
     ensures { (day : CalendarDate) → line.now ≡ sent day help.now.update → map (λ m. (m.0.now, value_of m.1)) result ≡ help_members day before.now help.now }
 {
     let counts = &help.counts;

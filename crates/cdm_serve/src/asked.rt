@@ -49,7 +49,12 @@ fn line_count(text: &[u8]) -> usize
 
 /// The reply to a question: its number, its word, how many lines follow, and these.
 #[tactic(auto, unfolding(crate::specs::Asked::told_text))]
-pub(crate) fn told_text(alloc: Global, number: u32, word: &str, body: &[u8]) -> Result<Vec<u8>, AllocError>
+pub(crate) fn told_text(
+    alloc: Global,
+    number: u32,
+    word: &str,
+    body: &[u8],
+) -> Result<Vec<u8>, AllocError>
     ensures { IfOk result (λ text. text.items ≡ told_text number word.now body.now) }
 {
     let mut text = String::new(alloc);
