@@ -72,4 +72,4 @@ helping_member day o = (codes "options", array_of (map (help_object day o.before
 
 -- the reply to the question of this number: the flight, and the records that help
 abbrev pub options_reply : ℕ → CalendarDate → Options → List ℕ
-options_reply number day o = answer_line (Some number) (codes "OPTIONS") (map (member_of day) (flight_members o) ++ helping_member day o)
+options_reply n day o = answer_line (Some n) (codes "OPTIONS") (map (member_of day) (flight_members o) ++ helping_member day o)
