@@ -1,17 +1,33 @@
 //! What could help a flight, as one line of JSON that replies to a question.
 ghost use Rattle.std.specs.Prelude.{◌≡◌, ◌++◌, All, IfOk, OnOk, flat_map, map};
 ghost use Rattle.json.specs.Tree.{json_tokens};
-ghost use Rattle.cdm_row.specs.Json.{member_tokens};
+ghost use Rattle.cdm_row.specs.Columns.{value_of};
+ghost use Rattle.cdm_row.specs.Json.{member_tokens, object_of};
 ghost use Rattle.cdm_options.specs.Tried.{EndsInTime};
-ghost use Rattle.cdm_options_text.specs.Objects.{help_object, helping_member, options_reply};
+ghost use Rattle.cdm_options_text.specs.Objects.{help_object, helping_member, member_of, options_reply};
 
 use crate::line::sent;
-use crate::objects::{flight_members, help_members, push_members};
+use crate::objects::{Member, flight_members, help_members, push_members};
 use cdm_json::{begin_line, end_line};
 use cdm_options::{Helping, Options};
 use cdm_time::{Day, Minute};
 use json::Writer;
 use std::alloc::{AllocError, Global};
+
+// Writes the object of these members.
+fn push_object(
+    writer: &mut Writer<Global>,
+    day: Day,
+    members: &[Member<'_>],
+) -> Result<(), AllocError>
+    ensures tokens { OnOk result (writer.new.tokens
+        ≡ writer.old.tokens ++ json_tokens (object_of (map (member_of day) (map (λ m. (m.0.now, value_of m.1)) members.now)))) }
+    ensures before { writer.new.before ≡ writer.old.before }
+{
+    writer.begin_object()?;
+    push_members(writer, day, members)?;
+    writer.end_object()
+}
 
 // Writes the object of a record that helps.
 fn push_help(
@@ -26,9 +42,7 @@ fn push_help(
     ensures before { writer.new.before ≡ writer.old.before }
 {
     let line = sent(alloc, day, &help.update)?;
-    writer.begin_object()?;
-    push_members(writer, day, &help_members(before, help, &line))?;
-    writer.end_object()
+    push_object(writer, day, &help_members(before, help, &line))
 }
 
 // Writes the objects of the records that help, one after another.
