@@ -462,6 +462,9 @@ COMPARE
            the scenario that you name is refused, there is no comparison, and
            the status is 3.
 
+  A scenario named - is refused by EXISTS, and so is the whole comparison: - is
+  the base plan.
+
 WHY
   cdmseq why airport.csv feed.csv AB1 prints:
 

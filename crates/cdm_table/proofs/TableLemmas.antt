@@ -161,7 +161,7 @@ module _ (d : DayRecord) (runways : IsDistinct same_name (runway_names d.airport
   pub one_table : (table : Table) (scenarios : List ScenarioRecord) (x y : List ℕ) → IsTable table d scenarios x → IsTable table d scenarios y → x ≡ y
   one_table Csv scenarios x y a b = one_csv scenarios x y a b
   one_table (Comparison asked) scenarios x y a b =
-      one_comparison scenarios (asked_day d scenarios asked) (own_asked (asked_of scenarios asked) a.0.1) x y a.1 b.1
-  one_table ComparisonCsv scenarios x y a b = one_comparison_csv scenarios x y a b
+      one_comparison scenarios (asked_day d scenarios asked) (own_asked (asked_of scenarios asked) a.1.1) x y a.2 b.2
+  one_table ComparisonCsv scenarios x y a b = one_comparison_csv scenarios x y a.1 b.1
   one_table (ComparisonJson asked) scenarios x y a b =
-      one_comparison_json scenarios (asked_day d scenarios asked) (own_asked (asked_of scenarios asked) a.0.1) x y a.1 b.1
+      one_comparison_json scenarios (asked_day d scenarios asked) (own_asked (asked_of scenarios asked) a.1.1) x y a.2 b.2

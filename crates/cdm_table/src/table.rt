@@ -1,7 +1,7 @@
 //! Tables over a day and its scenarios.
 ghost use Rattle.std.specs.Prelude.{◌≡◌, ℕ, List, None, Some, IfErr, IfOk, OnOk};
 ghost use Rattle.std.specs.Option.{option_copied};
-ghost use Rattle.cdm_table.specs.Tables.{IsAsked, IsFaultOf, IsLaidIf, IsTable, IsTableFault, asked_day, asked_of, day_by, unknown_in};
+ghost use Rattle.cdm_table.specs.Tables.{IsAsked, IsFaultOf, IsLaidIf, IsNameFault, IsTable, IsTableFault, asked_day, asked_of, day_by, named_as_day, unknown_in};
 ghost use Rattle.cdm_table.specs.inner.Refusals.{IsRefusedOr};
 ghost use Rattle.cdm_table.specs.declared.table.TableFault.TheVariants as fault;
 
@@ -35,6 +35,8 @@ pub enum Table {
 /// Why there is no table.
 #[derive(Clone, Copy, PartialEq, Eq, Debug)]
 pub enum TableFault {
+    /// The record of this number, from 1, gives a scenario the name that a comparison has for the day itself.
+    NamedAsDay(usize),
     /// There is no scenario of this name.
     NoScenario(ScenarioName),
     /// An update of the scenario of this name is refused: the first of them, by its number from 1, and the word that refuses it.
@@ -49,6 +51,23 @@ impl From<AllocError> for TableFault {
     fn from(_error: AllocError) -> TableFault {
         TableFault::Memory
     }
+}
+
+// No scenario has the name that a comparison has for the day itself.
+#[tactic(auto, unfolding(crate::specs::Tables::named_as_day))]
+fn check_names(scenarios: &[Scenario]) -> Result<(), TableFault>
+    ensures free { OnOk result (named_as_day 1 scenarios.now ≡ None) }
+    ensures fault { IfErr result (IsNameFault scenarios.now) }
+{
+    let mut number: usize = 1;
+    for scenario in scenarios {
+        if scenario.name().bytes() == b"-".as_slice() {
+            return Err(TableFault::NamedAsDay(number));
+        }
+        let records = 1 + scenario.updates().len();
+        number = number.checked_add(records).ok_or(TableFault::Memory)?;
+    }
+    Ok(())
 }
 
 // The scenario of this name, if one is asked for.
@@ -93,10 +112,13 @@ fn asked_day<'a>(
     asked: Option<ScenarioName>,
 ) -> Result<Option<Overlay<'a>>, TableFault>
     ensures day { IfOk result (λ day. day ≡ asked_day base.now scenarios.now asked) }
+    ensures named { OnOk result (named_as_day 1 scenarios.now ≡ None) }
     ensures asked { OnOk result (IsAsked base.now scenarios.now asked) }
     ensures fault { IfErr result (IsFaultOf base.now scenarios.now asked) }
 {
-    match asked_of(scenarios, asked)? {
+    let scenario = asked_of(scenarios, asked)?;
+    check_names(scenarios)?;
+    match scenario {
         Some(scenario) => Ok(Some(day_by(alloc, base, scenario)?)),
         None => Ok(None),
     }
@@ -108,8 +130,8 @@ fn asked_day<'a>(
 /// those that are refused (local profile), as text, as CSV or as JSON. Each scenario is answered over the base, by
 /// one of the workers in phase `Scenarios`, and every scenario is one piece.
 ///
-/// `NoScenario` where none of them has the name that is asked for, `Refused` where an update of the one that has it is refused, and else
-/// only `Memory`.
+/// Of a comparison `NoScenario` where none of them has the name that is asked for, `NamedAsDay` where one has the day's name, which is a
+/// hyphen, `Refused` where an update of the one that is asked for is refused; and else only `Memory`.
 pub fn tabulate<R: Threads + Sync, G: Gate>(
     alloc: Global,
     base: &DayState,
@@ -125,7 +147,10 @@ pub fn tabulate<R: Threads + Sync, G: Gate>(
     let _values = base.values();
     match table {
         Table::Csv => Ok(csv(alloc, base, scenarios, runner)?),
-        Table::ComparisonCsv => Ok(comparison_csv(alloc, base, scenarios, runner)?),
+        Table::ComparisonCsv => {
+            check_names(scenarios)?;
+            Ok(comparison_csv(alloc, base, scenarios, runner)?)
+        }
         Table::Comparison(asked) => {
             let day = asked_day(alloc, base, scenarios, asked)?;
             Ok(comparison(alloc, base, scenarios, day.as_ref(), runner)?)
