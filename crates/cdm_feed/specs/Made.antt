@@ -114,6 +114,7 @@ HaveOne asked a f s = (x y : List ℕ) (c d : Counted) → IsMade asked a f s x 
 abbrev pub table_error : TableFault → RunError
 table_error (untabled.NamedAsDay number) = error.Scenario number Exists
 table_error (untabled.NoScenario name) = error.NoScenario name
+table_error untabled.OtherDay = error.OtherDay
 table_error (untabled.Refused name number word) = error.Update name number word
 table_error untabled.Memory = error.Common common.Memory
 
@@ -144,6 +145,7 @@ IsUntold (Options flight role format) d questions (error.NotPlanned name status)
     IsOptionsFault (flight_of d.airport d.journal flight) flight (options.NotPlanned name status)
 IsUntold (Table table) d questions (error.Scenario number word) = (word ≡ Exists) × IsTableFault d questions table (untabled.NamedAsDay number)
 IsUntold (Table table) d questions (error.NoScenario name) = IsTableFault d questions table (untabled.NoScenario name)
+IsUntold (Table table) d questions error.OtherDay = IsTableFault d questions table untabled.OtherDay
 IsUntold (Table table) d questions (error.Update name number word) = IsTableFault d questions table (untabled.Refused name number word)
 IsUntold asked d questions fault = ⊥
 

@@ -105,6 +105,7 @@ fn table_error(fault: TableFault) -> RunError
     match fault {
         TableFault::NamedAsDay(number) => RunError::Scenario(number, RefusalWord::Exists),
         TableFault::NoScenario(name) => RunError::NoScenario(name),
+        TableFault::OtherDay => RunError::OtherDay,
         TableFault::Refused(name, number, word) => RunError::Update(name, number, word),
         TableFault::Memory => RunError::Common(CommonFault::Memory),
     }

@@ -10,10 +10,13 @@ use Rattle.cdm_scenario.specs.Scenarios.{ScenarioRecord, scenario_named}
 use Rattle.cdm_table.specs.Comparison.{IsComparison, IsComparisonCsv}
 use Rattle.cdm_table.specs.ComparisonJson.{IsComparisonJson}
 use Rattle.cdm_table.specs.Rows.{IsCsv}
+use Rattle.cdm_table.specs.Steps.{steps_of}
+use Rattle.cdm_table.specs.Sweep.{IsSweep, IsSweepJson}
+use Rattle.cdm_table.specs.declared.each.Each.{Each}
 use Rattle.cdm_table.specs.declared.table.Table.{Table}
-use Rattle.cdm_table.specs.declared.table.Table.TheVariants.{Csv, Comparison, ComparisonCsv, ComparisonJson}
+use Rattle.cdm_table.specs.declared.table.Table.TheVariants.{Csv, Comparison, ComparisonCsv, ComparisonJson, Sweep, SweepJson}
 use Rattle.cdm_table.specs.declared.table.TableFault.{TableFault}
-use Rattle.cdm_table.specs.declared.table.TableFault.TheVariants.{NamedAsDay, NoScenario, Refused, Memory}
+use Rattle.cdm_table.specs.declared.table.TableFault.TheVariants.{NamedAsDay, NoScenario, OtherDay, Refused, Memory}
 
 -- a comparison has a hyphen for the day itself, so no scenario may have this name: the number of the record that gives it to one, where
 -- these scenarios begin at the record of this number
@@ -54,6 +57,10 @@ IsTable (Comparison asked) d scenarios text =
 IsTable ComparisonCsv d scenarios text = (named_as_day 1 scenarios ≡ None) × IsComparisonCsv d scenarios text
 IsTable (ComparisonJson asked) d scenarios text =
     (named_as_day 1 scenarios ≡ None) × IsAsked d scenarios asked × IsComparisonJson d scenarios (asked_day d scenarios asked) text
+IsTable (Sweep each) d scenarios text =
+    (named_as_day 1 scenarios ≡ None) × IsSomeAnd (steps_of d.airport.day each) (λ minutes. IsSweep d scenarios minutes text)
+IsTable (SweepJson each) d scenarios text =
+    (named_as_day 1 scenarios ≡ None) × IsSomeAnd (steps_of d.airport.day each) (λ minutes. IsSweepJson d scenarios minutes text)
 
 -- an update of the scenario that is asked for is refused: the first of them, by its number, and its word
 abbrev pub IsRefusal : DayRecord → List ℕ → ℕ → RefusalWord → ScenarioRecord → Type 0
@@ -69,11 +76,19 @@ IsNameFault scenarios fault = ⊥
 abbrev pub IsFaultOf : DayRecord → List ScenarioRecord → Option (List ℕ) → TableFault → Type 0
 IsFaultOf d scenarios asked (NamedAsDay number) = (unknown_in scenarios asked ≡ None) × IsNameFault scenarios (NamedAsDay number)
 IsFaultOf d scenarios asked (NoScenario name) = unknown_in scenarios asked ≡ Some name
+IsFaultOf d scenarios asked OtherDay = ⊥
 IsFaultOf d scenarios asked (Refused name number word) = IsSomeAnd (asked_of scenarios asked) (IsRefusal d name number word)
 IsFaultOf d scenarios asked Memory = unknown_in scenarios asked ≡ None
+
+-- a step is a time of another day, a scenario has the day's name, or there was no memory
+abbrev pub IsStepFault : DayRecord → List ScenarioRecord → Each → TableFault → Type 0
+IsStepFault d scenarios each OtherDay = steps_of d.airport.day each ≡ None
+IsStepFault d scenarios each fault = IsNameFault scenarios fault
 
 abbrev pub IsTableFault : DayRecord → List ScenarioRecord → Table → TableFault → Type 0
 IsTableFault d scenarios (Comparison asked) fault = IsFaultOf d scenarios asked fault
 IsTableFault d scenarios (ComparisonJson asked) fault = IsFaultOf d scenarios asked fault
 IsTableFault d scenarios ComparisonCsv fault = IsNameFault scenarios fault
+IsTableFault d scenarios (Sweep each) fault = IsStepFault d scenarios each fault
+IsTableFault d scenarios (SweepJson each) fault = IsStepFault d scenarios each fault
 IsTableFault d scenarios Csv fault = fault ≡ Memory
