@@ -38,6 +38,7 @@ class Day:
         self.digests = Digests(change.position, change.position and change.digest or "")
         self.digested = asyncio.Event()
         self._texts = OrderedDict[int, bytes]()
+        self._sentences = dict[int, str]()
         self._bytes = 0
         self._waited_for: WeakValueDictionary[int, asyncio.Event] = WeakValueDictionary()
         self._of: defaultdict[tuple[str | None, str | None], list[Record]] = defaultdict(list)
@@ -56,6 +57,7 @@ class Day:
         self.digests = day.digests
         self.digested.set()
         self._texts.clear()
+        self._sentences.clear()
         self.starts += 1
         self.changed.set()
         self.end()
@@ -71,6 +73,7 @@ class Day:
         self._of = defaultdict(list)
         self._bytes = 0
         self._texts = OrderedDict()
+        self._sentences = {}
         self.digests = Digests(change.position, change.digest)
         self._keep(record, None, 0)
         self.starts += 1
@@ -106,16 +109,21 @@ class Day:
         self.records.append(record)
         return record
 
-    def add(self, record: Record, word: str | None, changes: list[object]) -> None:
-        """The next record's reply. Who waits for it is woken."""
+    def add(self, record: Record, word: str | None, changes: list[object], sentence: str = "") -> None:
+        """The next record's reply, with the sentence that says why it is refused. Who waits for it is woken."""
         record = self._keep(record, word, len(changes))
+        # The sentence is in no digest: a later program may say it in other words.
         text = self._texts[record.position] = text_of(record, changes)
+        if sentence:
+            self._sentences[record.position] = sentence
         # Those of before the start may not have been given again yet.
         if self.digests.position == record.position - 1 and self.digests.add(text):
             self.digested.set()
         self._bytes += len(text)
         while len(self._texts) > KEPT or self._bytes > KEPT_BYTES:
-            self._bytes -= len(self._texts.popitem(last=False)[1])
+            position, old = self._texts.popitem(last=False)
+            self._bytes -= len(old)
+            self._sentences.pop(position, None)
         self.changed.set()
         self._wake(record.position)
 
@@ -168,6 +176,14 @@ class Day:
         """The reply to a record, `changes` null if they aren't kept."""
         return self._texts.get(record.position) or text_of(record, None)
 
+    def replies(self, records: Iterable[Record]) -> bytes:
+        """Replies for who sent the records, one a line: one that refuses says why, if its sentence is kept."""
+        return b"".join(self._reply(record) + b"\n" for record in records)
+
+    def _reply(self, record: Record) -> bytes:
+        sentence = self._sentences.get(record.position)
+        return text_of(record, None, sentence) if sentence else self.text(record)
+
     def kept_behind(self, position: int) -> list[Record] | None:
         """All records behind a position, None if their replies aren't all kept whole."""
         return self.of(position + 1, self.position) if 0 <= self.position - position <= len(self._texts) else None
@@ -195,8 +211,11 @@ class Day:
         self._waited_for.clear()
 
 
-def text_of(record: Record, changes: list[object] | None) -> bytes:
+def text_of(record: Record, changes: list[object] | None, sentence: str | None = None) -> bytes:
+    """The reply to a record: the Rows that it changed, or the code that refuses it, with a sentence if there is one."""
     told = dict(zip(("position", "desk", "role", "line", "at"), record), reply="REFUSED", word=record.word)
+    if sentence:
+        told["sentence"] = sentence
     if record.word is None:
         del told["word"]
         told |= {"reply": "ACCEPTED", "accepted": record.accepted, "changes": changes}

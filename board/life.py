@@ -15,9 +15,10 @@ ENDS_SECONDS = 60.0
 
 @dataclass(frozen=True)
 class Keep:
-    """The order to give a reply to the day: the refusal code, if it is refused, and the Rows that it changes."""
+    """The order to give a reply to the day: the refusal code and the sentence that says why, if it is refused, and the Rows that it changes."""
     record: Record
     word: str | None
+    sentence: str
     changes: list[object]
 
 
@@ -67,11 +68,11 @@ class Life:
         if not self._due or reply.get("record") != self._replies:
             return End(f"a reply to record {reply.get('record')} instead of {self._replies}")
         match reply:
-            case {"reply": "REFUSED", "word": str(word)}:
-                return Keep(self._due.popleft(), word, [])
+            case {"reply": "REFUSED", "word": str(word), "sentence": str(sentence)}:
+                return Keep(self._due.popleft(), word, sentence, [])
             case {"reply": "ACCEPTED", "accepted": number, "changes": list(changes)} if number == self._accepted + 1:
                 self._accepted += 1
-                return Keep(self._due.popleft(), None, changes)
+                return Keep(self._due.popleft(), None, "", changes)
         return End("a reply that no record has")
 
     def ended(self, now: float) -> bool:

@@ -76,7 +76,7 @@ class Records:
         records = day.of(positions[0], positions[-1])
         # A fail-over that lost them may have given their positions to others.
         refuse([(record.desk, record.line) for record in records] != [(desk.name, line) for line in lines], 504, NOT_KNOWN)
-        return day.texts(records)
+        return day.replies(records)
 
     @contextlib.contextmanager
     def _counted(self) -> Iterator[None]:

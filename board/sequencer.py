@@ -149,7 +149,7 @@ class Sequencer:
 
     async def _serve(self, folder: str) -> None:
         """One process, on the day as it is, until it ends. The next one gets the rest."""
-        words = ("serve", f"{self._folder}/{self._day.change.file}", "journal.csv", "--format", "json")
+        words = ("serve", f"{self._folder}/{self._day.change.file}", "journal.csv", "--format", "json", "--sentences")
         patience = PATIENCE_SECONDS
         self._life.started(len(self._day.lines))
         process = await asyncio.create_subprocess_exec(
@@ -200,8 +200,8 @@ class Sequencer:
         match order:
             case Ready():
                 self.is_ready.set()
-            case Keep(record, word, changes):
-                self._day.add(record, word, changes)
+            case Keep(record, word, sentence, changes):
+                self._day.add(record, word, changes, sentence)
                 RECORDS.labels(record.role, word or "ACCEPTED").inc()
             case End(why):
                 raise Ended(why)

@@ -9,6 +9,13 @@ def moment(minute):
     return f"2025-03-{10 + minute // 1440}T{minute % 1440 // 60:02}:{minute % 60:02}Z"
 
 
+def minute(text):
+    """The minute of the horizon that a feed writes so."""
+    date, time = text.rstrip("Z").split("T")
+    hours, minutes = time.split(":")
+    return (int(date[-2:]) - 10) * 1440 + int(hours) * 60 + int(minutes)
+
+
 def airport():
     """The records of the airport file."""
     yield "DAY,2025-03-10"

@@ -21,7 +21,7 @@ function rowOf(record, flight) {
     const button = el('button', { type: 'button', class: 'quiet' }, 'why', el('span', { class: 'vh' }, ` was record ${record.position} refused`));
     button.addEventListener('click', async () => {
       button.disabled = true;
-      say(words, await sentence(record.position));
+      say(words, await whyRefused(record));
       button.remove();
     });
     what.append(' ', el('b', { class: 'refused' }, `refused ${record.word}`), ' ', button, words);
@@ -30,8 +30,11 @@ function rowOf(record, flight) {
     el('th', { scope: 'row' }, record.desk, record.role !== record.desk && el('small', {}, ` ${record.role}`)), what);
 }
 
+/** Why a record was refused, in the program's words: as its reply has it, or else as it is asked. */
+export const whyRefused = async ({ position, word, sentence: said }) => (said ? `${word}: ${said}` : sentence(position));
+
 /** Why a record was refused, in the program's words. */
-export async function sentence(position) {
+async function sentence(position) {
   try {
     return (await ask(`/v1/records/${position}/sentence`)).text.trim();
   } catch (problem) {

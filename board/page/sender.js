@@ -4,7 +4,7 @@ import { Effect } from './effect.js';
 import { recordText } from './moves.js';
 import { newKey } from './net.js';
 import { sender, whyNot } from './press.js';
-import { sentence } from './records.js';
+import { whyRefused } from './records.js';
 import { doubt, flightOf, undoing } from './undo.js';
 
 styled(new URL('act.css', import.meta.url).href);
@@ -145,8 +145,8 @@ export class Sender {
   }
 
   async refused(reply) {
-    this.answer(`Refused, ${reply.word}.`, 'Nothing is changed.', reply, false);
-    const words = await sentence(reply.position);
+    if (!reply.sentence) this.answer(`Refused, ${reply.word}.`, 'Nothing is changed.', reply, false);
+    const words = await whyRefused(reply);
     this.answer('Refused,', `${words.replace(/[.]?$/, '.')} Nothing is changed.`, reply, false);
   }
 

@@ -7,7 +7,7 @@ import { turn } from './hold.js';
 import { recordText, startUp } from './moves.js';
 import { Problem, newKey, objects } from './net.js';
 import { sender, whyNot } from './press.js';
-import { sentence } from './records.js';
+import { whyRefused } from './records.js';
 import { hm, minutesFrom, typed } from './times.js';
 import { flightOf, undoing } from './undo.js';
 
@@ -197,7 +197,7 @@ export class WhatIf {
     if (word === 'taken') {
       this.taken(reply);
     } else if (word === 'refused') {
-      this.answer('Refused,', `record ${reply.position}: ${(await sentence(reply.position)).replace(/[.]?$/, '.')} The others are in the log.`, false);
+      this.answer('Refused,', `record ${reply.position}: ${(await whyRefused(reply)).replace(/[.]?$/, '.')} The others are in the log.`, false);
     } else {
       this.answer(word === 'not known' ? 'Not known.' : 'Not sent.', `${detail}.${word === 'not known' ? ' Send them again: they are taken once.' : ''}`, false);
     }

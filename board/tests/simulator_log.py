@@ -63,7 +63,7 @@ class Sequencer:
         self.number += 1
         word = word_of(self.state, line)
         if word:
-            return {"record": self.number, "reply": "REFUSED", "word": word}
+            return {"record": self.number, "reply": "REFUSED", "word": word, "sentence": "why"}
         self.state, self.accepted = zlib.crc32(line.encode(), self.state), self.accepted + 1
         return {"record": self.number, "reply": "ACCEPTED", "accepted": self.accepted, "changes": []}
 
@@ -72,7 +72,7 @@ class Sequencer:
         reply, chance = self.reply(line), self.world.chance
         if self.world.is_calm or chance.random() > 0.01:
             return reply
-        other = {"record": self.number + 1, "reply": "REFUSED", "word": "OTHER"}
+        other = {"record": self.number + 1, "reply": "REFUSED", "word": "OTHER", "sentence": "why"}
         more = {"record": self.number, "reply": "ACCEPTED", "accepted": self.accepted + 2, "changes": []}
         return chance.choice((None, other, more, {}, {"ready": 0}))
 

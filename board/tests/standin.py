@@ -154,7 +154,7 @@ def serve(airport, journal):
             fields = line.rstrip("\n").split(",")
             word, changes = day.take(fields)
             if word:
-                out({"record": number, "reply": "REFUSED", "word": word})
+                out({"record": number, "reply": "REFUSED", "word": word, "sentence": "toy sentence"})
                 continue
             kept.write(line)
             kept.flush()
@@ -241,7 +241,7 @@ def main(words):
             out({"kind": kind, "of": of, "roles": roles, "fields": [{"name": name, "form": FORMS[name], "range": ""} for name in fields]})
         return 0
     if command == "serve":
-        serve(*rest)
+        serve(*(word for word in rest if word != "--sentences"))
         return 0
     if command == "carry":
         return carry(rest[0], rest[1], [word for word in rest if word != "--tell"][2], "--tell" in rest)

@@ -128,3 +128,14 @@ def test_an_answer_is_not_of_the_day_before(tmp_path):
             position, ran = await answers.ask("tower", Question(command))
             assert (position, ran.output) == (1, b"AP,FLT,AB2,5\n")
     asyncio.run(talk())
+
+
+def test_a_sentence_is_in_no_digest():
+    """So that a program may say it in other words."""
+    days = day_of(), day_of()
+    for number in range(1, 1001):
+        for day, sentence in zip(days, ("", f"sentence {number}")):
+            day.add(Record(number, "desk", "AP", "FLT,AB1,5"), "EXISTS", [], sentence)
+    silent, telling = (day.digests.made for day in days)
+    assert list(silent) == [1000] and telling == silent
+    assert json.loads(days[1].replies(days[1].of(7, 7))) == json.loads(days[0].replies(days[0].of(7, 7))) | {"sentence": "sentence 7"}

@@ -226,6 +226,20 @@ def test_a_question_that_takes_too_long_is_ended(board):
     assert not any("sleep" in words for words in server.processes().values())
 
 
+def test_a_refused_record_says_why(board):
+    """To the desk that sent it, as the question of later says it; not in the log, and not after a start."""
+    server = board(DESKS)
+    lines = ["FLT,AB1,5", "FLT,AB1,5"]
+    first, again = server.post(lines, "ap", "k1")
+    assert "sentence" not in first and again["sentence"] == "AB1 was created by record 1"
+    assert server.post(lines, "ap", "k1") == [first, again]
+    assert server.get("/v1/records/2/sentence", "ap").body == b"EXISTS: AB1 was created by record 1\n"
+    del again["sentence"]
+    assert server.records("ap") == [first, again]
+    server.kill()
+    assert server.start().post(lines, "ap", "k1")[1] == again
+
+
 def test_the_log_is_read(board):
     server = board(DESKS)
     server.post(["FLT,AB1,5", "FLT,AB2,5", "FOO"], "ap")

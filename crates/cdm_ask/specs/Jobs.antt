@@ -18,6 +18,6 @@ IsJobOf paths (command.Tell files text workers is_strict) = λ job. job ≡ does
 IsJobOf paths (command.Check files format) = λ job. job ≡ does.Ask (record { files = files; asked = ask.Check paths format; workers = 1; is_strict = false })
 IsJobOf paths (command.Carry files text) = λ job. job ≡ does.Ask (record { files = files; asked = ask.Carry text; workers = 1; is_strict = false })
 IsJobOf paths (command.Live airport feed1 feed2) = λ job. job ≡ does.Live airport feed1 feed2
-IsJobOf paths (command.Serve airport journal format) = λ job. job ≡ does.Serve airport journal format
+IsJobOf paths (command.Serve airport journal format sentences) = λ job. job ≡ does.Serve airport journal (record { format = format; sentences = sentences })
 IsJobOf paths (command.Kinds format) = λ job. job ≡ does.Kinds format
 IsJobOf paths (command.Print text) = Prints (string_bytes text)

@@ -6,6 +6,7 @@ use cdm_command::{Command, DayFiles};
 use cdm_feed::Asked;
 use cdm_kinds::Format;
 use cdm_phase::Workers;
+use cdm_serve::ReplyForm;
 
 /// What is asked of which files.
 #[derive(Clone, Copy, Debug)]
@@ -31,11 +32,11 @@ pub enum Job<'a> {
         feed1: &'a str,
         feed2: &'a str,
     },
-    /// It serves the day of an airport as it happens, with a journal.
+    /// It serves the day of an airport as it happens, with a journal, and with replies of this form.
     Serve {
         airport: &'a str,
         journal: &'a str,
-        format: Format,
+        form: ReplyForm,
     },
     /// It prints the table of the kinds of updates.
     Kinds(Format),
@@ -85,10 +86,14 @@ pub fn job_of<'a>(paths: FilePaths<'a>, command: &'a Command<'a>) -> Job<'a>
             airport,
             journal,
             format,
+            sentences,
         } => Job::Serve {
             airport,
             journal,
-            format: *format,
+            form: ReplyForm {
+                format: *format,
+                sentences: *sentences,
+            },
         },
         Command::Kinds(format) => Job::Kinds(*format),
         Command::Print(text) => Job::Print(text),

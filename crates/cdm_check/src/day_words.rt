@@ -134,27 +134,36 @@ impl fmt::Display for RunwayNames<'_> {
 fn unknown(alloc: Global, before: Before<'_>, update: &Update) -> Result<String, AllocError> {
     if let Some(flight) = flight_of(update) {
         if before.known.flight(flight).is_none() {
-            return unknown_flight(alloc, before, flight);
+            return unknown_flight(alloc, before.later, flight);
         }
     }
-    let names = RunwayNames(before.airport.runways());
     match runway_of(update) {
-        Some(runway) => {
-            let name = runway.text();
-            format!(in alloc; "no RUNWAY {name} in the airport file; there is {names}")
+        Some(runway) => unknown_runway(alloc, before.airport, runway),
+        None => {
+            let names = RunwayNames(before.airport.runways());
+            format!(in alloc; "{names}")
         }
-        None => format!(in alloc; "{names}"),
     }
 }
 
-// The flight isn't known: its FLT may come later.
-fn unknown_flight(
+/// The airport has no such runway.
+pub(crate) fn unknown_runway(
     alloc: Global,
-    before: Before<'_>,
+    airport: &Airport,
+    runway: RunwayName,
+) -> Result<String, AllocError> {
+    let (name, names) = (runway.text(), RunwayNames(airport.runways()));
+    format!(in alloc; "no RUNWAY {name} in the airport file; there is {names}")
+}
+
+/// The flight isn't known: its FLT may come on a later line.
+pub(crate) fn unknown_flight(
+    alloc: Global,
+    later: Option<u64>,
     flight: FlightName,
 ) -> Result<String, AllocError> {
     let name = flight.text();
-    match before.later {
+    match later {
         Some(line) => format!(in alloc;
             "{name} has no FLT that was accepted before this record; its FLT is on line {line}: move it up"
         ),

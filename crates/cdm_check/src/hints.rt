@@ -239,6 +239,7 @@ fn name_of(file: FileKind) -> &'static str {
         FileKind::Airport => "an airport file",
         FileKind::Feed => "a feed",
         FileKind::Scenarios => "a scenario file",
+        FileKind::Questions => "questions to a served day",
     }
 }
 

@@ -6,7 +6,7 @@ use cdm_flight::Role;
 use cdm_kinds::{Field, Kind};
 use std::alloc::{AllocError, Global};
 
-/// The files of a check.
+/// What records are read from: the files of a check, and the questions to a served day.
 #[derive(Clone, Copy, PartialEq, Eq)]
 pub(crate) enum FileKind {
     /// An airport file.
@@ -15,6 +15,8 @@ pub(crate) enum FileKind {
     Feed,
     /// A scenario file.
     Scenarios,
+    /// The questions to a served day.
+    Questions,
 }
 
 /// A kind of records.
@@ -22,7 +24,7 @@ pub(crate) enum FileKind {
 pub(crate) enum RecordKind {
     /// An update, in a feed and in a scenario.
     Update(Kind),
-    /// A kind of an airport file, or the one that begins a scenario.
+    /// A kind of an airport file, the one that begins a scenario, or a question.
     Other(&'static OtherKind),
 }
 
@@ -73,6 +75,26 @@ const SCENARIO_KINDS: &[OtherKind] = &[OtherKind {
     fields: &[("name", Form::ScenarioName)],
 }];
 
+/// The kinds of questions.
+const QUESTION_KINDS: &[OtherKind] = &[
+    OtherKind {
+        word: "PLAN",
+        fields: &[],
+    },
+    OtherKind {
+        word: "WHY",
+        fields: &[("flight", Form::Of(Field::Flight))],
+    },
+    OtherKind {
+        word: "LOAD",
+        fields: &[("runway", Form::Of(Field::Runway))],
+    },
+    OtherKind {
+        word: "OPTIONS",
+        fields: &[("flight", Form::Of(Field::Flight))],
+    },
+];
+
 impl FileKind {
     /// The place of the kind in a record, counted from 0: behind the role, where there is one.
     pub fn kind_place(self) -> usize
@@ -80,7 +102,7 @@ impl FileKind {
     {
         match self {
             FileKind::Feed => 1,
-            FileKind::Airport | FileKind::Scenarios => 0,
+            FileKind::Airport | FileKind::Scenarios | FileKind::Questions => 0,
         }
     }
 
@@ -88,7 +110,7 @@ impl FileKind {
     pub fn beginning(self) -> &'static str {
         match self {
             FileKind::Airport => "a record begins with DAY, RUNWAY, TAXI or SPACE",
-            FileKind::Feed | FileKind::Scenarios => "there is no such kind",
+            FileKind::Feed | FileKind::Scenarios | FileKind::Questions => "there is no such kind",
         }
     }
 
@@ -97,6 +119,7 @@ impl FileKind {
         let others: &'static [OtherKind] = match self {
             FileKind::Airport => AIRPORT_KINDS,
             FileKind::Scenarios => SCENARIO_KINDS,
+            FileKind::Questions => QUESTION_KINDS,
             FileKind::Feed => &[],
         };
         for kind in others {
@@ -104,7 +127,7 @@ impl FileKind {
                 return Some(RecordKind::Other(kind));
             }
         }
-        if self == FileKind::Airport {
+        if matches!(self, FileKind::Airport | FileKind::Questions) {
             return None;
         }
         Some(RecordKind::Update(Kind::named(text)?))
@@ -139,7 +162,7 @@ impl RecordKind {
         }
     }
 
-    /// The roles that may make it; there are none in an airport file.
+    /// The roles that may make it; there are none in an airport file, and none of a question.
     pub fn roles(self) -> &'static [Role] {
         match self {
             RecordKind::Update(kind) => kind.roles(),

@@ -109,6 +109,17 @@ impl Known {
         }
     }
 
+    /// What is known after these updates, which are the first records of a feed.
+    pub fn after(alloc: Global, updates: &[Update]) -> Result<Known, AllocError> {
+        let mut known = Known::new(alloc);
+        let mut number: u32 = 0;
+        for update in updates {
+            number = number.saturating_add(1);
+            known.take(Source::Record(number), update)?;
+        }
+        Ok(known)
+    }
+
     /// The same, to which more can be added.
     pub fn copy(&self, alloc: Global) -> Result<Known, AllocError> {
         let mut flights = BTreeMap::new(alloc);

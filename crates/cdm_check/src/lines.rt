@@ -42,8 +42,8 @@ fn cut(alloc: Global, text: &[u8], columns: usize) -> Result<Vec<u8>, AllocError
         .collect(alloc)
 }
 
-// A text as a sentence.
-fn sentence_of(alloc: Global, text: &str) -> Result<String, AllocError>
+/// A text as a sentence.
+pub(crate) fn sentence_of(alloc: Global, text: &str) -> Result<String, AllocError>
     ensures { IfOk result (λ sentence. IsSentence (string_bytes sentence)) }
 {
     let sentence = cut(alloc, text.as_bytes(), COLUMNS)?;

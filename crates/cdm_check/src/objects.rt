@@ -27,8 +27,8 @@ fn push_place(
     push_count(writer, "record", number as u64)
 }
 
-// Writes why a record is refused.
-fn push_cause(
+/// Writes why a record is refused: the word, and a sentence.
+pub fn push_cause(
     writer: &mut Writer<Global>,
     word: RefusalWord,
     sentence: &str,

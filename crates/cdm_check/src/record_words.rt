@@ -95,6 +95,7 @@ fn wrong_count(
         .count()
         .saturating_add(file.kind_place())
         .saturating_add(1);
+    let noun = if wanted == 1 { "field" } else { "fields" };
     let names = FieldNames(kind);
     let last = here.saturating_sub(1);
     let advice = if here > wanted && field_at(row, last).is_empty() {
@@ -103,7 +104,7 @@ fn wrong_count(
         ""
     };
     format!(in alloc;
-        "{word} takes {wanted} fields ({role}{word}{names}); this record has {here}{advice}"
+        "{word} takes {wanted} {noun} ({role}{word}{names}); this record has {here}{advice}"
     )
 }
 

@@ -83,11 +83,12 @@ pub enum Command<'a> {
         files: DayFiles<'a>,
         text: CarryText,
     },
-    /// Run a day in real time, with a journal. The records come from standard input.
+    /// Run a day in real time, with a journal. The records come from standard input. If `sentences`, a reply that refuses says why.
     Serve {
         airport: &'a str,
         journal: &'a str,
         format: Format,
+        sentences: bool,
     },
     /// Print the table of the kinds of updates.
     Kinds(Format),
@@ -619,6 +620,7 @@ fn serve_of<'a>(
         airport,
         journal,
         format: format_of(serve),
+        sentences: serve.get_flag("sentences"),
     }))
 }
 

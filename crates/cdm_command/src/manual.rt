@@ -614,9 +614,15 @@ SERVE
   READY    how many records JOURNAL has. A restart leaves out an incomplete last
            line, which a crash left.
   PLAN     the line PLAN asks for the plan, WHY,AB1 for what delays a flight,
-           LOAD,27L for how full a runway is. The reply has the number, the word
-           and how many lines follow, or REFUSED.
+           LOAD,27L for how full a runway is, OPTIONS,AB1 for what could help a
+           flight. The reply has the number, the word and how many lines follow,
+           or REFUSED.
   A line that is longer than 4096 bytes or unterminated is refused with FIELDS.
+  With --sentences each refusal says why, as check would of the record behind
+  those of JOURNAL:
+
+    3 REFUSED EXISTS: AB1 was created by record 1
+
   At the end of the input the program ends.
 
 CARRY
@@ -728,7 +734,7 @@ JSON
            flights
   check    path, line, record, word, sentence; path, hint; records, refused
   serve    ready; then for each record and question one line: record, reply, and
-           the members above
+           the members above; with --sentences a refusal has sentence, too
   kinds    kind, of, roles, fields (name, form, range)
   A refused scenario has scenario, update and word.
 

@@ -79,6 +79,14 @@ fn strict_arg<'a>(alloc: Global) -> Arg<'a> {
         .help("Status 4 if FEED has a refused record, or none at all")
 }
 
+// Whether a reply that refuses says why.
+fn sentences_arg<'a>(alloc: Global) -> Arg<'a> {
+    Arg::new(alloc, "sentences")
+        .long("sentences")
+        .action(ArgAction::SetTrue)
+        .help("Say in a sentence why a record is refused")
+}
+
 // The words that `check` takes.
 fn check_parser<'a>(alloc: Global) -> Result<Parser<'a>, AllocError> {
     day_parser(alloc, "check", CHECK_ABOUT, CHECK_EXAMPLE)?
@@ -326,7 +334,8 @@ fn serve_parser<'a>(alloc: Global) -> Result<Parser<'a>, AllocError> {
             "JOURNAL",
             "Journal of accepted records; created if missing",
         ))?
-        .arg(format_arg(alloc, FORMATS, TEXT_OR_JSON))
+        .arg(format_arg(alloc, FORMATS, TEXT_OR_JSON))?
+        .arg(sentences_arg(alloc))
 }
 
 // The words that `kinds` takes.

@@ -43,7 +43,7 @@ small_row day row = small_object 0 (row_members day row) (small_columns 0 day ro
 
 -- An object of columns.
 
-small_members : (n : ℕ) (day : CalendarDate) (members : List (List ℕ × Value)) → AreSmall n (map (λ m. (m.0, json_value day m.1)) members)
+pub small_members : (n : ℕ) (day : CalendarDate) (members : List (List ℕ × Value)) → AreSmall n (map (λ m. (m.0, json_value day m.1)) members)
 small_members n day [] = tt
 small_members n day (m ∷ members) = (small_value n day m.1, small_members n day members)
 
@@ -92,7 +92,7 @@ small_plan day scenario plan rows refused =
     (small-append 2 (count_members counts) (flights ++ last) (small_counts 2 counts) (small-append 2 flights last small_flights small_last))
 
 -- an answer whose own members are so small fits a line
-answer_fits : (number : Option ℕ) (word : List ℕ) (members : List (List ℕ × Json)) → AreSmall 3 members → FitsLine (object_of (head_members number word ++ members))
+pub answer_fits : (number : Option ℕ) (word : List ℕ) (members : List (List ℕ × Json)) → AreSmall 3 members → FitsLine (object_of (head_members number word ++ members))
 answer_fits number word members each =
     let all = head_members number word ++ members in
     fits (object_of all) (small_object 3 all (small-append 3 (head_members number word) members (small_head 3 number word) each))

@@ -3,6 +3,7 @@ mod Values
 mod Texts
 mod AnswerLemmas
 mod ShiftLemmas
+mod OptionLemmas
 mod TableLemmas
 mod KindLemmas
 mod CheckLemmas

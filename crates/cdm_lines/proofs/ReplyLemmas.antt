@@ -4,30 +4,32 @@ use Rattle.std.proofs.{Common.{refl, subst, sym, Option, None, Some, Result, Ok,
 use Rattle.std.specs.{Prelude.{⊤, bytes_eq, find, flat_map, is_some}, Cmp.Lexicographic.same_text, List.{AllByRecursion, IsDistinct}}
 use Rattle.std.specs.Option.{option_map}
 use Rattle.cdm_time.specs.declared.calendar.CalendarDate.{CalendarDate}
-use Rattle.cdm_flight.specs.{Accepted.has_runway, Journal.{AirportRows, flight_of, runway_row}, Names.same_name}
-use Rattle.cdm_flight.specs.declared.{airport.RunwayRow.RunwayRow, word.RefusalWord.RefusalWord}
+use Rattle.cdm_flight.specs.{Accepted.has_runway, Journal.{AirportRows, flight_of, runway_row}, Names.same_name, Words.text_of}
+use Rattle.cdm_flight.specs.declared.{airport.RunwayRow.RunwayRow, flight.Flight.Flight, role.Role.Role, update.Update.Update, word.RefusalWord.RefusalWord}
 use Rattle.cdm_flight.specs.declared.word.RefusalWord.TheVariants as word
 use Rattle.cdm_runway.specs.Rules.{RunwayRules}
 use Rattle.cdm_sequence.{proofs.OrderLemmas.same_flips, specs.declared.plan.Plan.Plan}
 use Rattle.cdm_plan.{specs.Airport.IsAirport, specs.Day.{DayRecord, rules_of}, proofs.NameLemmas.{by_name_differ, find-rules, in_order}}
 use Rattle.cdm_view.specs.{Load.unknown_in, declared.question.Question.TheVariants.{Why, Load}}
 use Rattle.cdm_row.specs.Json.{count_json, object_of}
-use Rattle.cdm_desk.specs.Replies.{day_after}
+use Rattle.cdm_check.specs.Check.{cause_members}
+use Rattle.cdm_desk.specs.Replies.{day_after, word_for}
 use Rattle.cdm_kinds.specs.declared.format.Format.TheVariants.{Json}
 use Rattle.cdm_files.specs.{Fields.{counted, field, flight_field, of_one, runway_field}, Parsing.parse_of}
 use Rattle.cdm_journal.specs.Lines.{LineRecord, LineRecord.{Blank, One, Several}}
-use Rattle.cdm_json.specs.Loads.{AreLoadLines, load_line}
+use Rattle.cdm_json.specs.{Lines.head_members, Loads.{AreLoadLines, load_line}}
 use Rattle.cdm_json.specs.declared.plan.PlanOf.TheVariants as of
 use Rattle.cdm_port.specs.{Event.Event, Event.Event.{Appended, Broken, End, Line, Replied}, Stop.{IsStopOf, IsTorn}}
-use Rattle.cdm_serve.specs.Requests.{asked_by, flight_asked, request_in, request_of, runway_asked}
+use Rattle.cdm_serve.specs.{Asked.{AreOptionsTold, IsAnswerText, helpless_by}, Posted.IsRecordText, Refused.{IsToldBy, word_asked}}
+use Rattle.cdm_serve.specs.Requests.{asked_by, flight_asked, options_asked, request_in, request_of, runway_asked}
 use Rattle.cdm_serve.specs.Served.{AreReplies, Exchange, IsHeard, IsReplyTo, IsServed, IsStopped, answered, day_of, left_out, line_of}
 use Rattle.cdm_serve.specs.Served.{numbered, reading, said, served, start_text, started, told_of}
 use Rattle.cdm_serve.specs.{Taken.{TakenRecord, after, day_with, taken}, declared.asked.Asked.Asked}
-use Rattle.cdm_serve.specs.declared.{asked.Asked.TheVariants.{Plan as AskPlan, View}, request.Request.Request}
+use Rattle.cdm_serve.specs.declared.{asked.Asked.TheVariants.{Options as AskOptions, Plan as AskPlan, View}, request.Request.Request}
 use Rattle.cdm_serve.specs.declared.request.Request.TheVariants.{Ask, Nothing, Post}
-use Rattle.cdm_lines.specs.{Lines.{FitsLine, IsLine}, Replies.{AreReplyLines, BeginsLine, RepliesBefore, RepliesLine}}
-use Rattle.cdm_lines.proofs.{AnswerLemmas.{is_load_line, is_plan_line, is_refused_line, is_reply_line, is_why}, Texts.{fits, line_same}}
-use Rattle.cdm_lines.proofs.Values.{small_decimal, small_object}
+use Rattle.cdm_lines.specs.{Lines.{FitsLine, IsLine}, Replies.{AreReplyLines, BeginsLine, RepliesBefore, RepliesLine, json_form}}
+use Rattle.cdm_lines.proofs.{AnswerLemmas.{is_load_line, is_plan_line, is_refused_line, is_reply_line, is_why}, OptionLemmas.is_options_reply, Texts.{fits, line_same}}
+use Rattle.cdm_lines.proofs.Values.{small_decimal, small_object, small_string}
 
 -- The start.
 
@@ -95,6 +97,7 @@ AsksOne (Ask AskPlan) = ⊤
 AsksOne (Ask (View (Why name))) = ⊤
 AsksOne (Ask (View (Load None))) = ⊥
 AsksOne (Ask (View (Load (Some name)))) = ⊤
+AsksOne (Ask (AskOptions name)) = ⊤
 AsksOne (Post spelled) = ⊤
 
 counted_one : (wanted count : ℕ) (r : Result Asked RefusalWord) → AsksOne (asked_by r) → AsksOne (asked_by (counted wanted count r))
@@ -107,6 +110,10 @@ counted_one wanted count r one = by (count == wanted)
 flight_one : (r : Result (List ℕ) RefusalWord) → AsksOne (asked_by (of_one (λ flight. View (Why flight)) r))
 flight_one (Ok name) = tt
 flight_one (Err w) = tt
+
+options_one : (r : Result (List ℕ) RefusalWord) → AsksOne (asked_by (of_one (λ flight. AskOptions flight) r))
+options_one (Ok name) = tt
+options_one (Err w) = tt
 
 runway_one : (r : Result (List ℕ) RefusalWord) → AsksOne (asked_by (of_one (λ runway. View (Load (Some runway))) r))
 runway_one (Ok name) = tt
@@ -122,24 +129,60 @@ asks_one day fields =
     let plan = asked_by (counted 1 (length fields) (Ok AskPlan)) in
     let why = asked_by (counted 2 (length fields) (flight_asked (field fields 1))) in
     let load = asked_by (counted 2 (length fields) (runway_asked (field fields 1))) in
+    let options = asked_by (counted 2 (length fields) (options_asked (field fields 1))) in
     let post = Post (parse_of day fields) in
     let says_why = bytes_eq (field fields 0) (codes "WHY") in
     let says_load = bytes_eq (field fields 0) (codes "LOAD") in
+    let says_options = bytes_eq (field fields 0) (codes "OPTIONS") in
     let of_plan : AsksOne plan = counted_one 1 (length fields) (Ok AskPlan) tt in
     let of_why : AsksOne why = counted_one 2 (length fields) (flight_asked (field fields 1)) (flight_one (flight_field (field fields 1))) in
     let of_load : AsksOne load = counted_one 2 (length fields) (runway_asked (field fields 1)) (runway_one (runway_field (field fields 1))) in
-    either_one (bytes_eq (field fields 0) (codes "PLAN")) plan (cond says_why why (cond says_load load post)) of_plan
-    (either_one says_why why (cond says_load load post) of_why (either_one says_load load post of_load tt))
+    let of_options : AsksOne options = counted_one 2 (length fields) (options_asked (field fields 1)) (options_one (flight_field (field fields 1))) in
+    let later = cond says_options options post in
+    let of_later : AsksOne later = either_one says_options options post of_options tt in
+    either_one (bytes_eq (field fields 0) (codes "PLAN")) plan (cond says_why why (cond says_load load later)) of_plan
+    (either_one says_why why (cond says_load load later) of_why (either_one says_load load later of_load of_later))
 
-is_reply : (d : DayRecord) → IsAirport d.airport → (number : ℕ) (request : Request) (text : List ℕ) → AsksOne request → IsReplyTo Json d number request text → IsLine text
-is_reply d airport number Nothing text one is = absurd one
-is_reply d airport number (Post spelled) text one (reply, of_day, is) = line_same text _ is (is_reply_line d.airport.day number (length (day_after d spelled).journal) reply)
-is_reply d airport number (Ask AskPlan) text one (plan, of_day, is) = is_plan_line d (of.Asked number) plan [] text is
-is_reply d airport number (Ask (View (Why name))) text one (inl (unknown, is)) = line_same text _ is (is_refused_line number word.Unknown)
-is_reply d airport number (Ask (View (Why name))) text one (inr (plan, of_day, is)) = is_why d (Some number) plan (flight_of d.airport d.journal name) text is
-is_reply d airport number (Ask (View (Load None))) text one is = absurd one
-is_reply d airport number (Ask (View (Load (Some name)))) text one (inl (unknown, is)) = line_same text _ is (is_refused_line number word.Unknown)
-is_reply d airport number (Ask (View (Load (Some name)))) text one (inr (plan, of_day, is)) = is_load d airport (Some number) plan name text is.0 is.1
+is_told : (refusal : Option RefusalWord) (d : DayRecord) (number : ℕ) (known : Option Flight) (text : List ℕ) → AreOptionsTold refusal Json d number known text → IsLine text
+is_told (Some refusal) d number known text is = line_same text _ is (is_refused_line number refusal)
+is_told None d number known text is = is_options_reply number d known None text is
+
+is_posted : (d : DayRecord) (number : ℕ) (spelled : Result (Role × Update) RefusalWord) (text : List ℕ) → IsRecordText Json d number spelled text → IsLine text
+is_posted d number spelled text (reply, of_day, is) = line_same text _ is (is_reply_line d.airport.day number (length (day_after d spelled).journal) reply)
+
+is_answer : (d : DayRecord) → IsAirport d.airport → (number : ℕ) (asked : Asked) (text : List ℕ) → AsksOne (Ask asked) → IsAnswerText Json d number asked text → IsLine text
+is_answer d airport number AskPlan text one (plan, of_day, is) = is_plan_line d (of.Asked number) plan [] text is
+is_answer d airport number (View (Why name)) text one (inl (unknown, is)) = line_same text _ is (is_refused_line number word.Unknown)
+is_answer d airport number (View (Why name)) text one (inr (plan, of_day, is)) = is_why d (Some number) plan (flight_of d.airport d.journal name) text is
+is_answer d airport number (View (Load None)) text one is = absurd one
+is_answer d airport number (View (Load (Some name))) text one (inl (unknown, is)) = line_same text _ is (is_refused_line number word.Unknown)
+is_answer d airport number (View (Load (Some name))) text one (inr (plan, of_day, is)) = is_load d airport (Some number) plan name text is.0 is.1
+is_answer d airport number (AskOptions name) text one is =
+    is_told (helpless_by (flight_of d.airport d.journal name)) d number (flight_of d.airport d.journal name) text is
+
+-- a refusal with its sentence
+pub explained_fits : (number : ℕ) (word : RefusalWord) (sentence : List ℕ)
+    → FitsLine (object_of (head_members (Some number) (codes "REFUSED") ++ cause_members word sentence))
+explained_fits number word sentence =
+    let members = head_members (Some number) (codes "REFUSED") ++ cause_members word sentence in
+    fits (object_of members)
+    (small_object 3 members
+    (small_decimal 3 number, (small_string 3 (codes "REFUSED"), (small_string 3 (text_of word), (small_string 3 sentence, tt)))))
+
+-- a reply that has a sentence, or is plain
+told_fits : (refusal : Option RefusalWord) (sentences : Bool) (number : ℕ) (IsPlain : List ℕ → Type 0) (text : List ℕ) → (IsPlain text → IsLine text)
+    → IsToldBy refusal sentences Json number IsPlain text → IsLine text
+told_fits None sentences number IsPlain text plain is = plain is
+told_fits (Some word) true number IsPlain text plain is = (_, explained_fits number word is.sentence, is.bytes)
+told_fits (Some word) false number IsPlain text plain is = plain is
+
+is_reply : (sentences : Bool) (d : DayRecord) → IsAirport d.airport → (number : ℕ) (request : Request) (text : List ℕ) → AsksOne request
+    → IsReplyTo (json_form sentences) d number request text → IsLine text
+is_reply sentences d airport number Nothing text one is = absurd one
+is_reply sentences d airport number (Post spelled) text one is =
+    told_fits (word_for d spelled) sentences number (IsRecordText Json d number spelled) text (is_posted d number spelled text) is
+is_reply sentences d airport number (Ask asked) text one is =
+    told_fits (word_asked d asked) sentences number (IsAnswerText Json d number asked) text (is_answer d airport number asked text one) is
 
 -- What happens.
 
@@ -151,12 +194,12 @@ told_line : (one : Option TakenRecord) (reply : List ℕ) → IsLine reply → A
 told_line None reply is = (is, (tt, tt))
 told_line (Some one) reply is = (tt, (tt, (is, (tt, tt))))
 
-pub answer_line : (d : DayRecord) (line : LineRecord) (number : ℕ) (reply : List ℕ) → IsAirport d.airport → IsReplyTo Json d number (request_of d.airport.day line) reply
-    → AllByRecursion RepliesLine (answered d line reply)
-answer_line d Blank number reply airport is = tt
-answer_line d (One fields) number reply airport is =
-    told_line (taken d (One fields)) reply (is_reply d airport number (request_in d.airport.day fields) reply (asks_one d.airport.day fields) is)
-answer_line d Several number reply airport is = told_line (taken d Several) reply (is_reply d airport number (Post (Err word.Fields)) reply tt is)
+pub answer_line : (sentences : Bool) (d : DayRecord) (line : LineRecord) (number : ℕ) (reply : List ℕ) → IsAirport d.airport
+    → IsReplyTo (json_form sentences) d number (request_of d.airport.day line) reply → AllByRecursion RepliesLine (answered d line reply)
+answer_line sentences d Blank number reply airport is = tt
+answer_line sentences d (One fields) number reply airport is =
+    told_line (taken d (One fields)) reply (is_reply sentences d airport number (request_in d.airport.day fields) reply (asks_one d.airport.day fields) is)
+answer_line sentences d Several number reply airport is = told_line (taken d Several) reply (is_reply sentences d airport number (Post (Err word.Fields)) reply tt is)
 
 said_line : (heard : Option (List ℕ)) → RepliesLine (said heard)
 said_line None = tt
@@ -166,13 +209,13 @@ airport_kept : (d : DayRecord) (one : Option TakenRecord) → IsAirport d.airpor
 airport_kept d None airport = airport
 airport_kept d (Some one) airport = airport
 
-served_lines : (exchanges : List Exchange) (d : DayRecord) (number : ℕ) → IsAirport d.airport → AreReplies Json d number exchanges → AllByRecursion RepliesLine (served d exchanges)
-served_lines [] d number airport are = tt
-served_lines (x ∷ later) d number airport are = (
+served_lines : (sentences : Bool) (exchanges : List Exchange) (d : DayRecord) (number : ℕ) → IsAirport d.airport → AreReplies (json_form sentences) d number exchanges → AllByRecursion RepliesLine (served d exchanges)
+served_lines sentences [] d number airport are = tt
+served_lines sentences (x ∷ later) d number airport are = (
   said_line x.heard,
   all-append (answered d (line_of x) x.reply) (served (after d (line_of x)) later)
-      (answer_line d (line_of x) (numbered number (line_of x)) x.reply airport are.0.1)
-      (served_lines later (after d (line_of x)) (numbered number (line_of x)) (airport_kept d (taken d (line_of x)) airport) are.1),
+      (answer_line sentences d (line_of x) (numbered number (line_of x)) x.reply airport are.0.1)
+      (served_lines sentences later (after d (line_of x)) (numbered number (line_of x)) (airport_kept d (taken d (line_of x)) airport) are.1),
 )
 
 left_line : (bytes : List ℕ) → AllByRecursion RepliesLine (left_out bytes)
@@ -192,12 +235,12 @@ heard_line Broken is = tt
 heard_line (Line line) is = tt
 heard_line other is = absurd is
 
-pub served_told : (g : AirportRows) (marked : Bool) (bytes : List ℕ) (next : Event) (whole : List Event) → IsAirport g → IsHeard next → IsServed Json g marked bytes next whole
+pub served_told : (sentences : Bool) (g : AirportRows) (marked : Bool) (bytes : List ℕ) (next : Event) (whole : List Event) → IsAirport g → IsHeard next → IsServed (json_form sentences) g marked bytes next whole
     → AllByRecursion RepliesLine whole
-served_told g marked bytes next whole airport heard is =
+served_told sentences g marked bytes next whole airport heard is =
     let d = day_of g marked bytes in
     let there = all-append (started Json g marked bytes) _ (started_lines g marked bytes)
-    (all-append (served d is.exchanges) (next ∷ []) (served_lines is.exchanges d 0 airport is.replies) (heard_line next heard, tt)) in
+    (all-append (served d is.exchanges) (next ∷ []) (served_lines sentences is.exchanges d 0 airport is.replies) (heard_line next heard, tt)) in
     subst (AllByRecursion RepliesLine) (sym is.events) there
 
 -- Where a run stops.
@@ -225,7 +268,7 @@ stop_lines (event ∷ whole) done all (inr (inr (rest, is, more))) =
 reading_lines : (marked : Bool) (bytes : List ℕ) → AllByRecursion RepliesLine (reading marked bytes)
 reading_lines marked bytes = (tt, left_line (drop (length (start_text marked bytes)) bytes))
 
-pub stopped_lines : (g : AirportRows) (marked : Bool) (done : List Event) → IsAirport g → IsStopped Json g marked done → AreReplyLines done
-stopped_lines g marked done airport (inl (bytes, stop)) = stop_lines (reading marked bytes) done (reading_lines marked bytes) stop
-stopped_lines g marked done airport (inr (bytes, next, whole, heard, served, stop)) =
-    stop_lines whole done (served_told g marked bytes next whole airport heard served) stop
+pub stopped_lines : (sentences : Bool) (g : AirportRows) (marked : Bool) (done : List Event) → IsAirport g → IsStopped (json_form sentences) g marked done → AreReplyLines done
+stopped_lines sentences g marked done airport (inl (bytes, stop)) = stop_lines (reading marked bytes) done (reading_lines marked bytes) stop
+stopped_lines sentences g marked done airport (inr (bytes, next, whole, heard, served, stop)) =
+    stop_lines whole done (served_told sentences g marked bytes next whole airport heard served) stop

@@ -1,9 +1,15 @@
 -- What each reply of a served day keeps.
-use Rattle.std.specs.Prelude.{⊤, ℕ, List, [], ◌∷◌}
+use Rattle.std.specs.Prelude.{⊤, ℕ, Bool, List, [], ◌∷◌}
+use Rattle.cdm_kinds.specs.declared.format.Format.TheVariants.{Json}
 use Rattle.cdm_port.specs.Event.{Event}
 use Rattle.cdm_port.specs.Event.Event.{Replied}
 use Rattle.cdm_port.specs.Stop.{IsPrefix}
+use Rattle.cdm_serve.specs.declared.form.ReplyForm.{ReplyForm}
 use Rattle.cdm_lines.specs.Lines.{IsLine}
+
+-- replies as lines of JSON, with sentences or without
+abbrev pub json_form : Bool → ReplyForm
+json_form sentences = record { format = Json; sentences = sentences }
 
 -- where it is a reply, it is one line
 abbrev pub RepliesLine : Event → Type 0

@@ -35,7 +35,7 @@ use cdm_kinds::{Format, kinds_text};
 pub use cdm_live::{LiveCounts, LiveError, run_live};
 use cdm_phase::OpenGate;
 use cdm_port::{OpenFault, OpenJournal, Streams};
-use cdm_serve::ServeError;
+use cdm_serve::{ReplyForm, ServeError};
 use cdm_table::Table;
 use std::alloc::{AllocError, Global};
 use std::fs::File;
@@ -235,8 +235,8 @@ where
         Job::Serve {
             airport,
             journal,
-            format,
-        } => serve_day(rt, [airport, journal], format, out, console),
+            form,
+        } => serve_day(rt, [airport, journal], form, out, console),
         Job::Kinds(format) => print(&kinds_text(rt.alloc(), format)?, out),
         Job::Print(text) => print(text.as_bytes(), out),
     }
@@ -311,7 +311,7 @@ fn tell_unended<E: Write>(lacks_end: bool, input: Input, console: &mut Console<'
 fn serve_day<R, W: Write, E: Write>(
     rt: &R,
     paths: [&str; 2],
-    format: Format,
+    form: ReplyForm,
     out: &mut Device<W>,
     console: &mut Console<'_, E>,
 ) -> Result<u8, Fault>
@@ -326,7 +326,7 @@ where
     };
     let journal = open_journal(rt, journal)?;
     let mut streams = Streams::new(input, &mut *out, &mut console.errors, journal);
-    let status = served(rt, alloc, airport, format, &mut streams);
+    let status = served(rt, alloc, airport, form, &mut streams);
     let mut journal = streams.into_journal();
     if status.is_err() {
         journal.give_up();

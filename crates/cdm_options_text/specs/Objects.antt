@@ -6,8 +6,8 @@ use Rattle.cdm_sequence.specs.declared.rule.Rule.{Rule}
 use Rattle.cdm_sequence.specs.Words.{rule_text}
 use Rattle.cdm_row.specs.Columns.{Value}
 use Rattle.cdm_row.specs.Columns.Value.{nothing, text, number, minute}
-use Rattle.cdm_row.specs.Json.{json_value, object_of}
-use Rattle.cdm_json.specs.Lines.{json_line}
+use Rattle.cdm_row.specs.Json.{array_of, json_value, object_of}
+use Rattle.cdm_json.specs.Lines.{answer_line, json_line}
 use Rattle.cdm_kinds.specs.Words.{role_name}
 use Rattle.cdm_options.specs.Tried.{sender_of}
 use Rattle.cdm_options.specs.declared.helping.Helping.{Helping}
@@ -59,3 +59,17 @@ object_line day members = json_line (object_of (map (member_of day) members))
 
 abbrev pub options_objects : CalendarDate → Options → List ℕ
 options_objects day o = object_line day (flight_members o) ++ flat_map (λ h. object_line day (help_members day o.before h)) o.helping
+
+-- On one line.
+
+-- a record that helps, as an object
+abbrev pub help_object : CalendarDate → Option ℕ → Helping → Json
+help_object day before h = object_of (map (member_of day) (help_members day before h))
+
+-- the records that help, one after another
+abbrev pub helping_member : CalendarDate → Options → List (List ℕ × Json)
+helping_member day o = (codes "options", array_of (map (help_object day o.before) o.helping)) ∷ []
+
+-- the reply to the question of this number: the flight, and the records that help
+abbrev pub options_reply : ℕ → CalendarDate → Options → List ℕ
+options_reply n day o = answer_line (Some n) (codes "OPTIONS") (map (member_of day) (flight_members o) ++ helping_member day o)

@@ -9,7 +9,7 @@ use Rattle.cdm_kinds.specs.declared.format.Format.TheVariants.{Text, Json as AsJ
 use Rattle.cdm_options.specs.Options.{HasOptions}
 use Rattle.cdm_options.specs.declared.options.Options.{Options}
 use Rattle.cdm_options_text.specs.Lines.{options_lines}
-use Rattle.cdm_options_text.specs.Objects.{options_objects}
+use Rattle.cdm_options_text.specs.Objects.{options_objects, options_reply}
 
 abbrev pub options_in : Format → CalendarDate → Options → List ℕ
 options_in Text day o = options_lines day o
@@ -20,3 +20,9 @@ pub record IsOptionsText (format : Format) (d : DayRecord) (known : Option Fligh
   pub options : Options
   pub of_flight : HasOptions d known role options
   pub bytes : text ≡ options_in format d.airport.day options
+
+-- the flight is known and on its stand, and the line replies to a question of this number with its options
+pub record IsOptionsReply (number : ℕ) (d : DayRecord) (known : Option Flight) (role : Option Role) (text : List ℕ) : Type 0 where
+  pub options : Options
+  pub of_flight : HasOptions d known role options
+  pub bytes : text ≡ options_reply number d.airport.day options

@@ -4,7 +4,8 @@
 mod columns;
 mod line;
 mod objects;
+mod reply;
 mod text;
 mod texts;
 
-pub use texts::options_text;
+pub use texts::{options_line, options_text};

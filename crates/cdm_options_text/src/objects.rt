@@ -17,11 +17,11 @@ use cdm_time::{Day, Minute};
 use json::Writer;
 use std::alloc::{AllocError, Global};
 
-// A member: its name and its value.
-type Member<'a> = (&'static str, Value<'a>);
+/// A member: its name and its value.
+pub(crate) type Member<'a> = (&'static str, Value<'a>);
 
-// Writes members, one after another.
-fn push_members(
+/// Writes members, one after another.
+pub(crate) fn push_members(
     writer: &mut Writer<Global>,
     day: Day,
     members: &[Member<'_>],
@@ -75,9 +75,9 @@ fn gain_value(before: &Option<Minute>, ttot: Minute) -> Value<'static>
     }
 }
 
-// The members of the flight and its day.
+/// The members of the flight and its day.
 #[tactic(auto, unfolding(crate::specs::Objects::flight_members))]
-fn flight_members<'a>(options: &'a Options) -> [Member<'a>; 13]
+pub(crate) fn flight_members<'a>(options: &'a Options) -> [Member<'a>; 13]
     ensures { map (λ m. (m.0.now, value_of m.1)) result ≡ flight_members options.now }
 {
     let counts = &options.counts;
@@ -98,9 +98,13 @@ fn flight_members<'a>(options: &'a Options) -> [Member<'a>; 13]
     ]
 }
 
-// The members of a record that helps, of which this is the text.
+/// The members of a record that helps, of which this is the text.
 #[tactic(auto, unfolding(crate::specs::Objects::help_members))]
-fn help_members<'a>(before: &Option<Minute>, help: &'a Helping, line: &'a str) -> [Member<'a>; 10]
+pub(crate) fn help_members<'a>(
+    before: &Option<Minute>,
+    help: &'a Helping,
+    line: &'a str,
+) -> [Member<'a>; 10]
     ensures { (day : CalendarDate) → line.now ≡ sent day help.now.update → map (λ m. (m.0.now, value_of m.1)) result ≡ help_members day before.now help.now }
 {
     let counts = &help.counts;

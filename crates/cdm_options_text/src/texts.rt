@@ -3,9 +3,10 @@ ghost use Rattle.std.specs.Prelude.{◌≡◌, ℕ, List, All, IfErr, IfOk};
 ghost use Rattle.cdm_flight.specs.Journal.{flight_of};
 ghost use Rattle.cdm_options.specs.Options.{IsOptionsFault};
 ghost use Rattle.cdm_options.specs.Tried.{EndsInTime};
-ghost use Rattle.cdm_options_text.specs.Texts.{IsOptionsText, options_in};
+ghost use Rattle.cdm_options_text.specs.Texts.{IsOptionsReply, IsOptionsText, options_in};
 
 use crate::objects::options_objects;
+use crate::reply::options_reply;
 use crate::text::options_lines;
 use cdm_day::{DayState, Records};
 use cdm_flight::{FlightName, Role};
@@ -56,5 +57,31 @@ pub fn options_text<R: Threads + Sync, G: Gate>(
     let _values = base.values();
     let options = options_of(alloc, base, name, role, runner)?;
     let text = options_in(alloc, format, *base.day(), &options)?;
+    Ok(text)
+}
+
+/// What could help a flight (local profile), as one line of JSON: the reply to the question of this number. It has the members of the
+/// first line of [`options_text`], and in a list the objects of the others.
+///
+/// The faults are those of [`options_of`].
+#[tactic(auto, using(crate::proofs::TextLemmas::one_reply))]
+pub fn options_line<R: Threads + Sync, G: Gate>(
+    alloc: Global,
+    number: u32,
+    base: &DayState,
+    name: FlightName,
+    role: Option<Role>,
+    runner: &Runner<'_, R, G>,
+) -> Result<Vec<u8>, OptionsFault>
+    ensures line { let d = base.now in
+        IfOk result (λ text. IsOptionsReply number d (flight_of d.airport d.journal name) role text.items) }
+    ensures only { let d = base.now in IfOk result (λ text. (other : List ℕ) →
+        IsOptionsReply number d (flight_of d.airport d.journal name) role other → other ≡ text.items) }
+    ensures fault { let d = base.now in IfErr result (IsOptionsFault (flight_of d.airport d.journal name) name) }
+{
+    // What the base's records tell is sound, which makes the line the only one.
+    let _values = base.values();
+    let options = options_of(alloc, base, name, role, runner)?;
+    let text = options_reply(alloc, number, *base.day(), &options)?;
     Ok(text)
 }

@@ -19,7 +19,8 @@ module _ (P : Request → Type 0) (day : CalendarDate) (fields : List (List ℕ)
   asks posted =
       either (bytes_eq (field fields 0) (codes "PLAN")) _ _
       (either (bytes_eq (field fields 0) (codes "WHY")) _ _
-      (either (bytes_eq (field fields 0) (codes "LOAD")) _ _ posted))
+      (either (bytes_eq (field fields 0) (codes "LOAD")) _ _
+      (either (bytes_eq (field fields 0) (codes "OPTIONS")) _ _ posted)))
 
 -- only a blank line asks for nothing
 pub blank_line : (day : CalendarDate) (line : LineRecord) → request_of day line ≡ Nothing → line ≡ Blank

@@ -4,7 +4,6 @@ use Rattle.std.proofs.lemmas.List.{append-nil}
 use Rattle.cdm_files.specs.{FeedDay.{accepted_in, refusals_in}, Records.records_of}
 use Rattle.cdm_flight.specs.Journal.{AirportRows}
 use Rattle.cdm_journal.{specs.Journal.journal_text, specs.Laws.Make, proofs.ReadLemmas.feed-makes}
-use Rattle.cdm_kinds.specs.declared.format.Format.{Format}
 use Rattle.cdm_plan.specs.Day.{DayRecord}
 use Rattle.cdm_port.specs.{Event.Event, Event.Event.{Flushed, LeftOut, Marked, Read, Renamed, Replied, Synced}, Stop.IsStopOf}
 use Rattle.cdm_port.proofs.Stops.{earlier}
@@ -12,6 +11,7 @@ use Rattle.cdm_serve.specs.Disk.{Disk, IsAmong, MayBeLeft, disk_after, disk_with
 use Rattle.cdm_serve.specs.Promises.{HasAll, IsKept, IsReadAs, rows_of, told, untold, updates_of}
 use Rattle.cdm_serve.specs.Served.{IsStopped, begun, day_of, left_out, reading, ready_text, served, start_text, started}
 use Rattle.cdm_serve.specs.Taken.{TakenRecord}
+use Rattle.cdm_serve.specs.declared.form.ReplyForm.{ReplyForm}
 use Rattle.cdm_serve.proofs.Kept.{AlwaysKeeps, always_keeps, by_moments, on_other, only_text, reads_own, same_text}
 
 module _ (g : AirportRows) (marked : Bool) (disk : Disk) (bytes : List ℕ) where
@@ -103,19 +103,19 @@ since_read bytes start moment whole (inr (inr (rest, same, stop))) =
     (at, rw later stop)
 
 module _ (g : AirportRows) (marked : Bool) (disk : Disk) where
-  pub always_good : (format : Format) (done : List Event) → IsStopped format g marked done → (bytes : List ℕ) (moment : List Event) → IsStopOf (Read bytes ∷ moment) done
+  pub always_good : (form : ReplyForm) (done : List Event) → IsStopped form g marked done → (bytes : List ℕ) (moment : List Event) → IsStopOf (Read bytes ∷ moment) done
       → MayBeLeft disk marked bytes → AreGood g marked disk bytes moment
-  always_good format done (inl (start, stop)) bytes moment now finds =
+  always_good form done (inl (start, stop)) bytes moment now finds =
       let at = since_read bytes start moment _ (earlier (Read bytes ∷ moment) done (reading marked start) now stop) in
       only_read g marked disk bytes finds moment (rw at.0 at.1)
-  always_good format done (inr (start, next, whole, heard, is, stop)) bytes moment now finds =
+  always_good form done (inr (start, next, whole, heard, is, stop)) bytes moment now finds =
       let d = day_of g marked start in
       let rest : List Event = served d is.exchanges ++ next ∷ [] in
-      let all : IsStopOf (Read bytes ∷ moment) (started format g marked start ++ rest) = rw is.events at (earlier (Read bytes ∷ moment) done whole now stop) in
+      let all : IsStopOf (Read bytes ∷ moment) (started form.format g marked start ++ rest) = rw is.events at (earlier (Read bytes ∷ moment) done whole now stop) in
       let at = since_read bytes start moment _ all in
       let finds_start : MayBeLeft disk marked start = rw at.0 at finds in
       subst (λ (b : List ℕ). AreGood g marked disk b moment) (sym at.0)
-      (started_at g marked disk start finds_start is.accepted (ready_text format (length d.journal)) rest (always_keeps format d 0 is.exchanges next is.replies heard) moment at.1)
+      (started_at g marked disk start finds_start is.accepted (ready_text form.format (length d.journal)) rest (always_keeps form d 0 is.exchanges next is.replies heard) moment at.1)
 
 -- Where the journal was on the disk.
 

@@ -10,7 +10,6 @@ use Rattle.cdm_flight.specs.declared.word.RefusalWord.{RefusalWord}
 use Rattle.cdm_journal.specs.{Journal.{has_line_feed, journal_line, journal_text}, Laws.{IsTaken, Make}, Lines.{LineRecord, line_record}}
 use Rattle.cdm_journal.{specs.Lines.LineRecord.{Blank, One, Several}, proofs.ReadLemmas.{adds-line, adds-update, has-updates, reads-back}}
 use Rattle.cdm_journal.proofs.WholeLemmas.{is-whole, leaves-torn}
-use Rattle.cdm_kinds.specs.declared.format.Format.{Format}
 use Rattle.cdm_plan.specs.Day.{DayRecord}
 use Rattle.cdm_port.specs.{Event.Event, Event.Event.{Appended, Broken, End, Flushed, Line, Replied, Synced}, Heard.IsLine}
 use Rattle.cdm_port.specs.Stop.{IsPrefix, IsStopOf, IsTorn}
@@ -19,6 +18,7 @@ use Rattle.cdm_serve.specs.{Promises.{HasAll, IsReadAs, rows_of, told, untold, u
 use Rattle.cdm_serve.specs.Served.{AreReplies, Exchange, IsHeard, answered, line_of, said, served, start_text, told_of}
 use Rattle.cdm_serve.specs.Taken.{TakenRecord, after, day_with, record_heard, taken, taken_of, unless_refused}
 use Rattle.cdm_serve.specs.declared.request.Request.{Request, TheVariants.{Ask, Nothing, Post}}
+use Rattle.cdm_serve.specs.declared.form.ReplyForm.{ReplyForm}
 use Rattle.cdm_serve.proofs.AnswerLemmas.{asks}
 
 -- Taken records.
@@ -240,9 +240,9 @@ heard_last d Broken is = on_line d None [] (λ rows make moment stop. rw stop (u
 heard_last d (Line line) is = on_line d (Some line) [] (λ rows make moment stop. rw stop (untouched d.airport rows d.journal (taken d (record_heard (Some line))) make))
 heard_last d event is = absurd is
 
-pub always_keeps : (format : Format) (d : DayRecord) (number : ℕ) (xs : List Exchange) (next : Event) → AreReplies format d number xs → IsHeard next → AlwaysKeeps d (served d xs ++ next ∷ [])
-always_keeps format d number [] next are is = heard_last d next is
-always_keeps format d number (x ∷ xs) next are is =
+pub always_keeps : (form : ReplyForm) (d : DayRecord) (number : ℕ) (xs : List Exchange) (next : Event) → AreReplies form d number xs → IsHeard next → AlwaysKeeps d (served d xs ++ next ∷ [])
+always_keeps form d number [] next are is = heard_last d next is
+always_keeps form d number (x ∷ xs) next are is =
     subst (λ (run : List Event). AlwaysKeeps d (said x.heard ∷ run)) (sym (append_assoc (answered d (line_of x) x.reply) (served (after d (line_of x)) xs) (next ∷ [])))
     (on_line d x.heard (answered d (line_of x) x.reply ++ (served (after d (line_of x)) xs ++ next ∷ []))
-    (on_answered d (line_of x) x.reply (served (after d (line_of x)) xs ++ next ∷ []) (taken_is d x.heard are.0.0) (always_keeps format (after d (line_of x)) _ xs next are.1 is)))
+    (on_answered d (line_of x) x.reply (served (after d (line_of x)) xs ++ next ∷ []) (taken_is d x.heard are.0.0) (always_keeps form (after d (line_of x)) _ xs next are.1 is)))

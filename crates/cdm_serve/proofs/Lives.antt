@@ -3,11 +3,11 @@ use Rattle.std.proofs.Common.{◌≡◌, ◌⊎◌, inl, inr, ℕ, Bool, Option,
 use Rattle.std.proofs.lemmas.List.{append-nil}
 use Rattle.cdm_files.specs.FeedDay.{accepted_in, refusals_in}
 use Rattle.cdm_flight.specs.{Journal.AirportRows, declared.update.Update.Update}
-use Rattle.cdm_kinds.specs.declared.format.Format.{Format}
 use Rattle.cdm_port.{specs.Event.Event, specs.Event.Event.Read, specs.Stop.IsStopOf, proofs.Stops.front}
 use Rattle.cdm_serve.specs.Disk.{Disk, MayBeLeft, disk_after, found}
 use Rattle.cdm_serve.specs.Life.{AreAllOrOneMore, AreKept, Finds, IsLife, Start, disk_of, told_since, untold_since}
 use Rattle.cdm_serve.specs.{Promises.{HasAll, untold, updates_of}, Served.{IsStopped, start_text}, Taken.TakenRecord}
+use Rattle.cdm_serve.specs.declared.form.ReplyForm.{ReplyForm}
 use Rattle.cdm_serve.proofs.{Begun.{IsGood, always_good}, Kept.only_text}
 
 -- the first that happens is that the journal is read
@@ -20,9 +20,9 @@ read_first bytes done rest (inr (inl torn)) = absurd torn
 read_first bytes done rest (inr (inr (moment, same, stop))) = inr (bytes, moment, same)
 
 module _ (g : AirportRows) where
-  begins : (format : Format) (marked : Bool) (done : List Event) → IsStopped format g marked done → Begins done
-  begins format marked done (inl (bytes, stop)) = read_first bytes done _ stop
-  begins format marked done (inr (bytes, next, whole, heard, is, stop)) = read_first bytes done _ (rw is.events at stop)
+  begins : (form : ReplyForm) (marked : Bool) (done : List Event) → IsStopped form g marked done → Begins done
+  begins form marked done (inl (bytes, stop)) = read_first bytes done _ stop
+  begins form marked done (inr (bytes, next, whole, heard, is, stop)) = read_first bytes done _ (rw is.events at stop)
 
   -- a start refuses none of it, and these are its updates
   abbrev Has : (List Update → Type 0) → Bool → List ℕ → Type 0
@@ -53,18 +53,18 @@ module _ (g : AirportRows) where
         let has = all_told later left _ _ last all in
         (has.0, (accepted_in g (start_text marked bytes), (before marked bytes finds).1, has.1))
 
-    step : (format : Format) (marked : Bool) (done : List Event) → IsStopped format g marked done → Finds disk (record { format = format; marked = marked; done = done })
+    step : (form : ReplyForm) (marked : Bool) (done : List Event) → IsStopped form g marked done → Finds disk (record { form = form; marked = marked; done = done })
         → (later : Bool) (left : List ℕ) → MayBeLeft (disk_after disk done) later left → Has (AreMore marked done) later left
-    step format marked done stopped finds later left may =
+    step form marked done stopped finds later left may =
         let left_by = λ (run : List Event). MayBeLeft (disk_after disk run) later left in
         let has_by = λ (run : List Event). Has (AreMore marked run) later left in
-        elim (begins format marked done stopped) [
+        elim (begins form marked done stopped) [
           | inl none ↦ subst has_by (sym none) (none_told later left (subst left_by none may))
           | inr (bytes, moment, same) ↦
               let run : List Event = Read bytes ∷ moment in
               let at : MayBeLeft disk marked bytes = finds bytes moment same in
               let whole : IsStopOf run run = subst (IsStopOf run) (append-nil run) (front run []) in
-              let good = always_good g marked disk format run (subst (IsStopped format g marked) same stopped) bytes moment whole at later left (subst left_by same may) in
+              let good = always_good g marked disk form run (subst (IsStopped form g marked) same stopped) bytes moment whole at later left (subst left_by same may) in
               subst has_by (sym same) (good_has marked bytes _ _ later left at good)
         ]
 
@@ -76,4 +76,4 @@ module _ (g : AirportRows) where
       rw (may.0, same) (accepted, refl)
   life_is_kept marked bytes (start ∷ starts) accepted life later left may =
       step (AreKept g (accepted_in g (start_text marked bytes)) starts) (disk_of (found marked bytes) starts)
-      (life_is_kept marked bytes starts accepted life.0) start.format start.marked start.done life.1 life.2 later left may
+      (life_is_kept marked bytes starts accepted life.0) start.form start.marked start.done life.1 life.2 later left may

@@ -3,7 +3,6 @@ use Rattle.std.proofs.Common.{◌≡◌, inl, inr, ℕ, ◌+◌, ◌≤◌, ◌^
 use Rattle.std.proofs.{Common.{◌∷◌, ◌++◌, refl, sym, ◌∙◌, ap, append_assoc}, lemmas.List.append-nil, lemmas.List.Sums.sum_by-append}
 use Rattle.std.specs.Prelude.{⊤}
 use Rattle.cdm_journal.specs.Lines.{LineRecord, LineRecord.{Blank, One, Several}}
-use Rattle.cdm_kinds.specs.declared.format.Format.{Format}
 use Rattle.cdm_plan.specs.Day.{DayRecord}
 use Rattle.cdm_flight.specs.declared.word.RefusalWord.{RefusalWord}
 use Rattle.cdm_port.specs.{Event.Event, Event.Event.{Broken, End, Line}, Stop.{IsStopOf, Stops}}
@@ -15,6 +14,7 @@ use Rattle.cdm_serve.specs.inner.Steps.{AreTooMany, HearsInVain, HearsLine, IsAn
 use Rattle.cdm_serve.specs.declared.fault.ServeError.{ServeError}
 use Rattle.cdm_files.specs.declared.common_fault.CommonFault.TheVariants as common
 use Rattle.cdm_serve.specs.declared.fault.ServeError.TheVariants as error
+use Rattle.cdm_serve.specs.declared.form.ReplyForm.{ReplyForm}
 
 -- How many lines were heard.
 
@@ -36,38 +36,38 @@ numbered_few number Blank = omega arith
 numbered_few number line = omega arith
 
 -- Some lines were served: whatever is served of the day that is left now is served of the first behind them.
-pub record Ran (format : Format) (d : DayRecord) (number : ℕ) (today : DayRecord) (count turns : ℕ) (old new : List Event) : Type 0 where
+pub record Ran (form : ReplyForm) (d : DayRecord) (number : ℕ) (today : DayRecord) (count turns : ℕ) (old new : List Event) : Type 0 where
   pub before : List Event
   pub events : new ≡ old ++ before
   pub heard : count_by is_line before ≡ turns
   pub few : count ≤ number + turns
-  pub goes : (xs : List Exchange) → AreReplies format today count xs → (all : List Exchange) × AreReplies format d number all × (served d all ≡ before ++ served today xs)
+  pub goes : (xs : List Exchange) → AreReplies form today count xs → (all : List Exchange) × AreReplies form d number all × (served d all ≡ before ++ served today xs)
 
 -- none were yet
-pub none_ran : (format : Format) (d : DayRecord) (number : ℕ) (old : List Event) → Ran format d number d number 0 old old
-none_ran format d number old = record { before = []; events = sym (append-nil old); heard = refl; few = omega arith; goes = λ xs are. (xs, are, refl) }
+pub none_ran : (form : ReplyForm) (d : DayRecord) (number : ℕ) (old : List Event) → Ran form d number d number 0 old old
+none_ran form d number old = record { before = []; events = sym (append-nil old); heard = refl; few = omega arith; goes = λ xs are. (xs, are, refl) }
 
-module _ (format : Format) (d : DayRecord) (number : ℕ) (today : DayRecord) (count turns : ℕ) (old so_far : List Event) (ran : Ran format d number today count turns old so_far) where
+module _ (form : ReplyForm) (d : DayRecord) (number : ℕ) (today : DayRecord) (count turns : ℕ) (old so_far : List Event) (ran : Ran form d number today count turns old so_far) where
   after_line : (new : List Event) (line : LineRecord) (hears : HearsLine so_far new line) → new ≡ old ++ (ran.before ++ said hears.0 ∷ [])
   after_line new line hears = rw (hears.3, ran.events) (append_assoc old ran.before (said hears.0 ∷ []))
 
   -- one line more, and its answer in full or in part
   module _ (read : List Event) (line : LineRecord) (text : List ℕ) (hears : HearsLine so_far read line)
-      (is : IsReplyTo format today (numbered count line) (request_of today.airport.day line) text) where
+      (is : IsReplyTo form today (numbered count line) (request_of today.airport.day line) text) where
     abbrev exchange : Exchange
     exchange = record { heard = hears.0; reply = text }
 
     abbrev one : List Event
     one = said hears.0 ∷ answered today line text
 
-    is_next : IsExchange format today count exchange
+    is_next : IsExchange form today count exchange
     is_next = (hears.1, rw hears.2 at is)
 
     heard_then : (new done : List Event) → new ≡ read ++ done → new ≡ old ++ (ran.before ++ said hears.0 ∷ done)
     heard_then new done was = was ∙ rw (hears.3, ran.events) (simp append_assoc)
 
     pub goes_on : (next : DayRecord) (more : ℕ) (new : List Event) → new ≡ read ++ answered today line text → next ≡ after today line → more ≡ numbered count line
-        → Ran format d number next more (turns + 1) old new
+        → Ran form d number next more (turns + 1) old new
     goes_on next more new was next_day next_number = record {
       before = ran.before ++ one;
       events = heard_then new (answered today line text) was;
@@ -82,7 +82,7 @@ module _ (format : Format) (d : DayRecord) (number : ℕ) (today : DayRecord) (c
     }
 
     -- it stopped in the midst of an answer
-    pub midst : (new : List Event) → Stops read (answered today line text) new → ServeStops format d number old new
+    pub midst : (new : List Event) → Stops read (answered today line text) new → ServeStops form d number old new
     midst new stop =
         let all = ran.goes (exchange ∷ []) (is_next, tt) in
         let whole : served d all.0 ≡ ran.before ++ one = all.2 ∙ rw (append-nil, hears.2) refl in
@@ -90,28 +90,28 @@ module _ (format : Format) (d : DayRecord) (number : ℕ) (today : DayRecord) (c
         (all.0, End, all.1, tt, (ran.before ++ said hears.0 ∷ stop.0, longer _ _ (End ∷ []) (rw whole at), heard_then new stop.0 stop.2))
 
   -- all that was served until now
-  abbrev now : (all : List Exchange) × AreReplies format d number all × (served d all ≡ ran.before ++ [])
+  abbrev now : (all : List Exchange) × AreReplies form d number all × (served d all ≡ ran.before ++ [])
   now = ran.goes [] tt
 
   served_now : served d now.0 ≡ ran.before
   served_now = now.2 ∙ append-nil ran.before
 
   -- it stopped before the next line
-  pub between : ServeStops format d number old so_far
+  pub between : ServeStops form d number old so_far
   between = (now.0, End, now.1, tt, (ran.before, rw served_now (front ran.before (End ∷ [])), ran.events))
 
   -- it stopped behind a line, before its answer
-  pub behind : (new : List Event) (line : LineRecord) → HearsLine so_far new line → ServeStops format d number old new
+  pub behind : (new : List Event) (line : LineRecord) → HearsLine so_far new line → ServeStops form d number old new
   behind new line hears =
       let whole : List Event = ran.before ++ said hears.0 ∷ [] in
       (now.0, said hears.0, now.1, hears.1, (whole, rw served_now (rw append-nil at (front whole [])), after_line new line hears))
 
-  pub in_vain : (new : List Event) → HearsInVain so_far new → ServeStops format d number old new
+  pub in_vain : (new : List Event) → HearsInVain so_far new → ServeStops form d number old new
   in_vain new (inl same) = rw same between
   in_vain new (inr (line, hears)) = behind new line hears
 
   -- it came to the end
-  pub ended : (new : List Event) → new ≡ so_far ++ End ∷ [] → Serves format d number old new
+  pub ended : (new : List Event) → new ≡ so_far ++ End ∷ [] → Serves form d number old new
   ended new is = (
     now.0,
     now.1,

@@ -1,5 +1,6 @@
 pub mod Asked
 pub mod Posted
+pub mod Refused
 pub mod Requests
 pub mod Taken
 pub mod Served

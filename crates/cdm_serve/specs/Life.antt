@@ -3,17 +3,17 @@ use Rattle.std.specs.Prelude.{◌≡◌, ◌⊎◌, ⊤, ℕ, Bool, List, [], �
 use Rattle.cdm_files.specs.FeedDay.{accepted_in, refusals_in}
 use Rattle.cdm_flight.specs.Journal.{AirportRows}
 use Rattle.cdm_flight.specs.declared.update.Update.{Update}
-use Rattle.cdm_kinds.specs.declared.format.Format.{Format}
 use Rattle.cdm_port.specs.Event.{Event}
 use Rattle.cdm_port.specs.Event.Event.{Read}
 use Rattle.cdm_serve.specs.Disk.{Disk, MayBeLeft, disk_after, found}
 use Rattle.cdm_serve.specs.Promises.{told, untold, updates_of}
 use Rattle.cdm_serve.specs.Served.{IsStopped, day_of, start_text}
 use Rattle.cdm_serve.specs.Taken.{TakenRecord}
+use Rattle.cdm_serve.specs.declared.form.ReplyForm.{ReplyForm}
 
--- a start: the format of its replies, whether it found the journal marked as served, and all that has happened since
+-- a start: the form of its replies, whether it found the journal marked as served, and all that has happened since
 pub record Start : Type 0 where
-  pub format : Format
+  pub form : ReplyForm
   pub marked : Bool
   pub done : List Event
 
@@ -30,7 +30,7 @@ Finds disk start = (bytes : List ℕ) (moment : List Event) → start.done ≡ R
 -- each of these starts serves the day of an airport from what it finds, until it stops anywhere
 abbrev pub IsLife : AirportRows → Disk → List Start → Type 0
 IsLife g first [] = ⊤
-IsLife g first (start ∷ before) = IsLife g first before × IsStopped start.format g start.marked start.done × Finds (disk_of first before) start
+IsLife g first (start ∷ before) = IsLife g first before × IsStopped start.form g start.marked start.done × Finds (disk_of first before) start
 
 -- the updates that a start accepted and whose reply it began
 abbrev pub told_since : AirportRows → Bool → List Event → List Update

@@ -2,6 +2,7 @@
 use Rattle.std.specs.Prelude.{◌≡◌, ◌⊎◌, ⊤, ℕ, ◌+◌, Bool, true, false, List, [], ◌∷◌, ◌++◌, codes, drop, length, Option, None, Some}
 use Rattle.std.specs.Fmt.{decimal}
 use Rattle.std.specs.List.{concat}
+use Rattle.cdm_desk.specs.Replies.{word_for}
 use Rattle.cdm_files.specs.FeedDay.{day_in, refusals_in}
 use Rattle.cdm_files.specs.Records.{records_of}
 use Rattle.cdm_flight.specs.Journal.{AirportRows}
@@ -20,8 +21,10 @@ use Rattle.cdm_report.specs.Report.{line_end}
 use Rattle.cdm_row.specs.Json.{count_json, object_of}
 use Rattle.cdm_serve.specs.Asked.{IsAnswerText}
 use Rattle.cdm_serve.specs.Posted.{IsRecordText}
+use Rattle.cdm_serve.specs.Refused.{IsToldBy, word_asked}
 use Rattle.cdm_serve.specs.Requests.{request_of}
 use Rattle.cdm_serve.specs.Taken.{TakenRecord, after, record_heard, taken}
+use Rattle.cdm_serve.specs.declared.form.ReplyForm.{ReplyForm}
 use Rattle.cdm_serve.specs.declared.request.Request.{Request}
 use Rattle.cdm_serve.specs.declared.request.Request.TheVariants.{Ask, Nothing, Post}
 
@@ -43,11 +46,11 @@ answered d Blank reply = []
 answered d (One fields) reply = told_of (taken d (One fields)) reply
 answered d Several reply = told_of (taken d Several) reply
 
--- the text replies to a request of this number
-abbrev pub IsReplyTo : Format → DayRecord → ℕ → Request → List ℕ → Type 0
-IsReplyTo format d number Nothing text = ⊤
-IsReplyTo format d number (Ask asked) text = IsAnswerText format d number asked text
-IsReplyTo format d number (Post spelled) text = IsRecordText format d number spelled text
+-- the text replies to a request of this number; where sentences are told, one that a word refuses is replied to with a sentence
+abbrev pub IsReplyTo : ReplyForm → DayRecord → ℕ → Request → List ℕ → Type 0
+IsReplyTo form d number Nothing text = ⊤
+IsReplyTo form d number (Ask asked) text = IsToldBy (word_asked d asked) form.sentences form.format number (IsAnswerText form.format d number asked) text
+IsReplyTo form d number (Post spelled) text = IsToldBy (word_for d spelled) form.sentences form.format number (IsRecordText form.format d number spelled) text
 
 -- records and questions are numbered together, blank lines aren't
 abbrev pub numbered : ℕ → LineRecord → ℕ
@@ -74,13 +77,13 @@ abbrev pub line_of : Exchange → LineRecord
 line_of x = record_heard x.heard
 
 -- a line is replied to, where so many records and questions were numbered before
-abbrev pub IsExchange : Format → DayRecord → ℕ → Exchange → Type 0
-IsExchange format d number x = IsHeard (said x.heard) × IsReplyTo format d (numbered number (line_of x)) (request_of d.airport.day (line_of x)) x.reply
+abbrev pub IsExchange : ReplyForm → DayRecord → ℕ → Exchange → Type 0
+IsExchange form d number x = IsHeard (said x.heard) × IsReplyTo form d (numbered number (line_of x)) (request_of d.airport.day (line_of x)) x.reply
 
 -- the replies are those of the day, line after line
-abbrev pub AreReplies : Format → DayRecord → ℕ → List Exchange → Type 0
-AreReplies format d number [] = ⊤
-AreReplies format d number (x ∷ later) = IsExchange format d number x × AreReplies format (after d (line_of x)) (numbered number (line_of x)) later
+abbrev pub AreReplies : ReplyForm → DayRecord → ℕ → List Exchange → Type 0
+AreReplies form d number [] = ⊤
+AreReplies form d number (x ∷ later) = IsExchange form d number x × AreReplies form (after d (line_of x)) (numbered number (line_of x)) later
 
 -- what happens for these lines
 abbrev pub served : DayRecord → List Exchange → List Event
@@ -123,13 +126,13 @@ started format g marked bytes = reading marked bytes ++ begun (journal_text (rec
 -- A run.
 
 -- a journal without a refused record is served, line after line, until this is heard
-pub record IsServed (format : Format) (g : AirportRows) (marked : Bool) (bytes : List ℕ) (next : Event) (whole : List Event) : Type 0 where
+pub record IsServed (form : ReplyForm) (g : AirportRows) (marked : Bool) (bytes : List ℕ) (next : Event) (whole : List Event) : Type 0 where
   pub accepted : refusals_in g (start_text marked bytes) ≡ []
   pub exchanges : List Exchange
-  pub replies : AreReplies format (day_of g marked bytes) 0 exchanges
-  pub events : whole ≡ started format g marked bytes ++ (served (day_of g marked bytes) exchanges ++ next ∷ [])
+  pub replies : AreReplies form (day_of g marked bytes) 0 exchanges
+  pub events : whole ≡ started form.format g marked bytes ++ (served (day_of g marked bytes) exchanges ++ next ∷ [])
 
 -- what has happened is a part of what is to happen: of reading a journal, or of serving it until something is heard
-abbrev pub IsStopped : Format → AirportRows → Bool → List Event → Type 0
-IsStopped format g marked done = ((bytes : List ℕ) × IsStopOf done (reading marked bytes))
-    ⊎ ((bytes : List ℕ) × (next : Event) × (whole : List Event) × IsHeard next × IsServed format g marked bytes next whole × IsStopOf done whole)
+abbrev pub IsStopped : ReplyForm → AirportRows → Bool → List Event → Type 0
+IsStopped form g marked done = ((bytes : List ℕ) × IsStopOf done (reading marked bytes))
+    ⊎ ((bytes : List ℕ) × (next : Event) × (whole : List Event) × IsHeard next × IsServed form g marked bytes next whole × IsStopOf done whole)

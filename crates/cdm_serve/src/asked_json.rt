@@ -4,14 +4,18 @@ ghost use Rattle.cdm_json.specs.Records.{refused_line};
 ghost use Rattle.cdm_serve.specs.Asked.{IsAnswerText};
 
 use crate::asked::Asked;
+use crate::options::json_options;
 use cdm_day::DayState;
 use cdm_desk::RowReply;
+use cdm_files::Lent;
 use cdm_flight::RefusalWord;
 use cdm_json::{PlanOf, json_answer, plan_line, reply_line};
 use cdm_kinds::Format;
+use cdm_phase::OpenGate;
 use cdm_row::Rows;
 use cdm_view::{Question, ViewFault};
 use std::alloc::{AllocError, Global};
+use std::thread::Threads;
 
 // The line of the plan.
 fn plan_asked(alloc: Global, state: &DayState, number: u32) -> Result<Vec<u8>, AllocError>
@@ -28,12 +32,17 @@ fn plan_asked(alloc: Global, state: &DayState, number: u32) -> Result<Vec<u8>, A
     )
 }
 
-// The line that refuses a question of what isn't known.
-fn unknown_line(alloc: Global, state: &DayState, number: u32) -> Result<Vec<u8>, AllocError>
-    ensures { IfOk result (λ text. text.items ≡ refused_line number RefusalWord.Unknown) }
+/// The line that refuses a question by a word.
+pub(crate) fn refused_line(
+    alloc: Global,
+    state: &DayState,
+    number: u32,
+    word: RefusalWord,
+) -> Result<Vec<u8>, AllocError>
+    ensures { IfOk result (λ text. text.items ≡ refused_line number word) }
 {
-    let unknown = RowReply::Refused(RefusalWord::Unknown);
-    reply_line(alloc, *state.day(), number, state.journal().len(), &unknown)
+    let refused = RowReply::Refused(word);
+    reply_line(alloc, *state.day(), number, state.journal().len(), &refused)
 }
 
 // The line that answers a view.
@@ -55,14 +64,16 @@ fn view_asked(
     ) {
         Ok(line) => Ok(line),
         Err(ViewFault::Memory) => Err(AllocError),
-        Err(ViewFault::NoFlight(_) | ViewFault::NoRunway(_)) => unknown_line(alloc, state, number),
+        Err(ViewFault::NoFlight(_) | ViewFault::NoRunway(_)) => {
+            refused_line(alloc, state, number, RefusalWord::Unknown)
+        }
     }
 }
 
-/// The reply to the question of this number, on a line of JSON: the plan, or the answer to a view, or the refusal of one that asks
-/// for what isn't known. Only want of memory makes it fail.
-pub(crate) fn json_asked(
-    alloc: Global,
+/// The reply to the question of this number, on a line of JSON: the plan, or the answer to a view, or what could help a flight, or the
+/// refusal of what can't be told. Only want of memory makes it fail.
+pub(crate) fn json_asked<R: Threads + Sync>(
+    lent: &Lent<'_, R, OpenGate>,
     state: &DayState,
     number: u32,
     asked: Asked,
@@ -70,7 +81,8 @@ pub(crate) fn json_asked(
     ensures { IfOk result (λ text. IsAnswerText Format.Json state.now number asked text.items) }
 {
     match asked {
-        Asked::Plan => plan_asked(alloc, state, number),
-        Asked::View(question) => view_asked(alloc, state, number, question),
+        Asked::Plan => plan_asked(lent.alloc, state, number),
+        Asked::View(question) => view_asked(lent.alloc, state, number, question),
+        Asked::Options(flight) => json_options(lent, state, number, flight),
     }
 }

@@ -1,5 +1,5 @@
 //! A record that is posted, and its reply.
-ghost use Rattle.std.specs.Prelude.{◌≡◌, ◌↔◌, IfOk, IsTrue, None, OnOk};
+ghost use Rattle.std.specs.Prelude.{◌≡◌, IfOk, OnOk};
 ghost use Rattle.cdm_desk.specs.Replies.{day_after, reply_text, word_for};
 ghost use Rattle.cdm_serve.specs.Posted.{IsRecordText};
 
@@ -10,10 +10,10 @@ use cdm_kinds::Format;
 use cdm_time::Day;
 use std::alloc::{AllocError, Global};
 
-/// The reply to a record, and whether no word refuses it.
+/// The reply to a record, and the word that refuses it, if one does.
 #[derive(Drop)]
 pub(crate) struct Posted {
-    pub accepted: bool,
+    pub refusal: Option<RefusalWord>,
     pub text: Vec<u8>,
 }
 
@@ -39,14 +39,17 @@ fn post_for_text(
     spelled: &Result<(Role, Update), RefusalWord>,
 ) -> Result<Posted, AllocError>
     ensures text { IfOk result (λ posted. IsRecordText Format.Text desk.old number spelled.now posted.text.items) }
-    ensures accepted { IfOk result (λ posted. IsTrue posted.accepted ↔ (word_for desk.old spelled.now ≡ None)) }
+    ensures refusal { IfOk result (λ posted. posted.refusal ≡ word_for desk.old spelled.now) }
     ensures day { OnOk result (desk.new ≡ day_after desk.old spelled.now) }
 {
     let day = *desk.state().day();
     let reply = desk.post(alloc, spelled)?;
     let text = reply_text(alloc, day, number, &reply)?;
-    let accepted = matches!(reply, DeskReply::Accepted(_));
-    Ok(Posted { accepted, text })
+    let refusal = match reply {
+        DeskReply::Refused(word) => Some(word),
+        DeskReply::Accepted(_) => None,
+    };
+    Ok(Posted { refusal, text })
 }
 
 // Posts a record, and replies by the Rows that changed.
@@ -57,15 +60,18 @@ fn post_for_json(
     spelled: &Result<(Role, Update), RefusalWord>,
 ) -> Result<Posted, AllocError>
     ensures text { IfOk result (λ posted. IsRecordText Format.Json desk.old number spelled.now posted.text.items) }
-    ensures accepted { IfOk result (λ posted. IsTrue posted.accepted ↔ (word_for desk.old spelled.now ≡ None)) }
+    ensures refusal { IfOk result (λ posted. posted.refusal ≡ word_for desk.old spelled.now) }
     ensures day { OnOk result (desk.new ≡ day_after desk.old spelled.now) }
 {
     let day = *desk.state().day();
     let reply = desk.post_rows(alloc, spelled)?;
     let count = desk.state().journal().len();
     let text = reply_line(alloc, day, number, count, &reply)?;
-    let accepted = matches!(reply, RowReply::Accepted(_));
-    Ok(Posted { accepted, text })
+    let refusal = match reply {
+        RowReply::Refused(word) => Some(word),
+        RowReply::Accepted(_) => None,
+    };
+    Ok(Posted { refusal, text })
 }
 
 /// Posts a record, or the word that refuses it in itself: the day takes it where no word refuses it. Only want of memory makes it
@@ -78,7 +84,7 @@ pub(crate) fn post(
     spelled: &Result<(Role, Update), RefusalWord>,
 ) -> Result<Posted, AllocError>
     ensures text { IfOk result (λ posted. IsRecordText format desk.old number spelled.now posted.text.items) }
-    ensures accepted { IfOk result (λ posted. IsTrue posted.accepted ↔ (word_for desk.old spelled.now ≡ None)) }
+    ensures refusal { IfOk result (λ posted. posted.refusal ≡ word_for desk.old spelled.now) }
     ensures day { OnOk result (desk.new ≡ day_after desk.old spelled.now) }
 {
     match format {

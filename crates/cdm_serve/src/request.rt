@@ -3,7 +3,7 @@ ghost use Rattle.std.specs.Prelude.{◌≡◌};
 ghost use Rattle.csv.specs.Records.{fields_of};
 ghost use Rattle.cdm_files.specs.Fields.{counted};
 ghost use Rattle.cdm_journal.specs.Lines.{read_as};
-ghost use Rattle.cdm_serve.specs.Requests.{asked_by, flight_asked, request_in, request_of, runway_asked};
+ghost use Rattle.cdm_serve.specs.Requests.{asked_by, flight_asked, options_asked, request_in, request_of, runway_asked};
 
 use crate::asked::Asked;
 use cdm_files::{field_at, parse_record};
@@ -42,6 +42,15 @@ fn runway_asked(name: &[u8]) -> Result<Asked, RefusalWord>
     Ok(Asked::View(Question::Load(Some(runway))))
 }
 
+// The question what could help a flight.
+#[tactic(auto, unfolding(cdm_files::specs::Fields::name_field))]
+fn options_asked(name: &[u8]) -> Result<Asked, RefusalWord>
+    ensures { result ≡ options_asked name.now }
+{
+    let flight = FlightName::new(name).ok_or(RefusalWord::Text)?;
+    Ok(Asked::Options(flight))
+}
+
 // The request of a question of so many fields, which are to be so many.
 fn ask(wanted: usize, count: usize, asked: Result<Asked, RefusalWord>) -> Request
     ensures { result ≡ asked_by (counted wanted count asked) }
@@ -67,13 +76,15 @@ fn request_in(day: Day, row: &ByteRecord) -> Request
         ask(2, row.len(), flight_asked(name))
     } else if word == b"LOAD".as_slice() {
         ask(2, row.len(), runway_asked(name))
+    } else if word == b"OPTIONS".as_slice() {
+        ask(2, row.len(), options_asked(name))
     } else {
         Request::Post(parse_record(day, row))
     }
 }
 
-/// What a line that was read asks for: a question if its first field is `PLAN`, `WHY` or `LOAD`, otherwise a record. A line with several
-/// records is refused with Fields.
+/// What a line that was read asks for: a question if its first field is `PLAN`, `WHY`, `LOAD` or `OPTIONS`, otherwise a record. A line with
+/// several records is refused with Fields.
 pub fn request_of(day: Day, read: &LineRead) -> Request
     ensures { result ≡ request_of day (read_as read.now) }
 {

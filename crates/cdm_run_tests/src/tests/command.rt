@@ -267,8 +267,21 @@ fn is_served(alloc: Global, word: &str, format: Format) -> bool {
         airport: "a.csv",
         journal: "j.csv",
         format,
+        sentences: false,
     };
     let words = ["serve", "a.csv", "j.csv", "--format", word];
+    is_command(alloc, &words, &wanted)
+}
+
+// Whether the replies of a served day have sentences, in the format of this word.
+fn is_explained(alloc: Global, word: &str, format: Format) -> bool {
+    let wanted = Command::Serve {
+        airport: "a.csv",
+        journal: "j.csv",
+        format,
+        sentences: true,
+    };
+    let words = ["serve", "--sentences", "a.csv", "j.csv", "--format", word];
     is_command(alloc, &words, &wanted)
 }
 
@@ -280,6 +293,7 @@ fn traces_checks_and_served_days_have_a_format(rt: HostRuntime) {
         assert_holds(&rt, is_traced_since(alloc, word, format), ("since", word));
         assert_holds(&rt, is_checked(alloc, word, format), ("check", word));
         assert_holds(&rt, is_served(alloc, word, format), ("serve", word));
+        assert_holds(&rt, is_explained(alloc, word, format), ("sentences", word));
     }
 }
 

@@ -9,11 +9,17 @@ use cdm_feed::airport_of;
 use cdm_flight::RefusalWord;
 use cdm_kinds::Format;
 use cdm_port::PortFault;
-use cdm_serve::{ServeError, serve};
+use cdm_serve::{ReplyForm, ServeError, serve};
 use memory::{Call, Left, Memory, Stop};
 use script::{AIRPORT, BEGUN, OWN, READY, Row, SCRIPT, TORN};
 use std::alloc::{AllocError, Global};
 use std::thread::Threads;
+
+/// The form of the replies.
+const FORM: ReplyForm = ReplyForm {
+    format: Format::Text,
+    sentences: true,
+};
 
 /// No port makes so many calls here.
 const NEVER: Stop = Stop {
@@ -24,7 +30,7 @@ const NEVER: Stop = Stop {
 // What a served day over this port answers.
 fn answer_of<R: AllocGlobal + Threads + Sync>(rt: &R, port: &mut Memory) -> Result<(), ServeError> {
     let airport = airport_of(rt.alloc(), AIRPORT.as_bytes())?;
-    serve(rt, rt.alloc(), airport, Format::Text, port)
+    serve(rt, rt.alloc(), airport, FORM, port)
 }
 
 // What is left of the parts behind a text that begins with them, or nothing where they differ.

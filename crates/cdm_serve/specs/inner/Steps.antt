@@ -20,6 +20,7 @@ use Rattle.cdm_serve.specs.declared.answering.Answer.{Answer}
 use Rattle.cdm_serve.specs.declared.answering.Answer.TheVariants as answer
 use Rattle.cdm_serve.specs.declared.fault.ServeError.{ServeError}
 use Rattle.cdm_serve.specs.declared.fault.ServeError.TheVariants as error
+use Rattle.cdm_serve.specs.declared.form.ReplyForm.{ReplyForm}
 
 -- a journal that makes no day, as the error of a served day
 abbrev pub error_of : FileFault → ServeError
@@ -68,12 +69,12 @@ abbrev pub IsLinesFault : ℕ → List Event → List Event → ServeError → T
 IsLinesFault number old new = IsFaultOf ⊤ (λ place word. ⊥) (AreTooMany number old new)
 
 -- all lines were served to the end
-abbrev pub Serves : Format → DayRecord → ℕ → List Event → List Event → Type 0
-Serves format d number old new = (xs : List Exchange) × AreReplies format d number xs × (new ≡ old ++ (served d xs ++ End ∷ []))
+abbrev pub Serves : ReplyForm → DayRecord → ℕ → List Event → List Event → Type 0
+Serves form d number old new = (xs : List Exchange) × AreReplies form d number xs × (new ≡ old ++ (served d xs ++ End ∷ []))
 
 -- lines were served up to some moment
-abbrev pub ServeStops : Format → DayRecord → ℕ → List Event → List Event → Type 0
-ServeStops format d number old new = (xs : List Exchange) × (next : Event) × AreReplies format d number xs × IsHeard next × Stops old (served d xs ++ next ∷ []) new
+abbrev pub ServeStops : ReplyForm → DayRecord → ℕ → List Event → List Event → Type 0
+ServeStops form d number old new = (xs : List Exchange) × (next : Event) × AreReplies form d number xs × IsHeard next × Stops old (served d xs ++ next ∷ []) new
 
 -- a day was started
 pub record Starts (format : Format) (g : AirportRows) (marked : Bool) (old new : List Event) (d : DayRecord) : Type 0 where

@@ -1,6 +1,6 @@
 //! A day that is served: its airport, the journal that it begins with, and the lines of its input.
 
-/// A line of the input, what is replied to it, and what it puts into the journal. A line with an LF stands for one
+/// A line of the input, what is replied to it with sentences, and what it puts into the journal. A line with an LF stands for one
 /// that is passed over.
 pub type Row = (&'static str, &'static str, &'static str);
 
@@ -43,7 +43,11 @@ pub const SCRIPT: &[Row] = &[
         "4 ACCEPTED 1\nSLOT 27L AB2     100600   15 ------ 100600 100615 P    0\n",
         "AO,TOBT,AB2,2025-03-10T06:00Z\n",
     ),
-    ("AP,FLT,AB2,5", "5 REFUSED EXISTS\n", ""),
+    (
+        "AP,FLT,AB2,5",
+        "5 REFUSED EXISTS: AB2 was created by record 4\n",
+        "",
+    ),
     (
         "PLAN",
         "6 PLAN 5
@@ -89,7 +93,7 @@ RUNWAY 27L CELL 10
     ),
     (
         "AO,CTOT,AB1,2025-03-10T06:30Z",
-        "12 REFUSED AUTHORITY\n",
+        "12 REFUSED AUTHORITY: a CTOT is set by NM (Network Manager); AO (operator) may set CNL, TOBT\n",
         "",
     ),
     ("\r", "", ""),
@@ -101,14 +105,26 @@ SLOT 27L AB3     100600   15 ------ 100600 100615 P    0
 ",
         "AO,CNL,AB2\n",
     ),
-    ("AO,TOBT,AB2,2025-03-10T07:00Z", "14 REFUSED ENDED\n", ""),
-    ("WHY,XX", "15 REFUSED UNKNOWN\n", ""),
+    (
+        "AO,TOBT,AB2,2025-03-10T07:00Z",
+        "14 REFUSED ENDED: AB2 was cancelled by record 10\n",
+        "",
+    ),
+    (
+        "WHY,XX",
+        "15 REFUSED UNKNOWN: XX has no FLT that was accepted before this record\n",
+        "",
+    ),
     (
         "NM,CTOT,AB3,2025-03-10T06:40Z",
         "16 ACCEPTED 1\nSLOT 27L AB3     100600   15 100640 100620 100635 P   20\n",
         "NM,CTOT,AB3,2025-03-10T06:40Z\n",
     ),
-    ("AP,FLT,AB4,5\nAP,FLT,AB5,5", "17 REFUSED FIELDS\n", ""),
+    (
+        "AP,FLT,AB4,5\nAP,FLT,AB5,5",
+        "17 REFUSED FIELDS: send one record per line, of 4,096 bytes at most and with LF at its end\n",
+        "",
+    ),
     (
         "ATC,CLOSE,27L,2025-03-10T06:30Z,2025-03-10T06:40Z",
         "18 ACCEPTED 1\nSLOT 27L AB3     100600   15 100640 100625 100640 P   25\n",
@@ -124,7 +140,11 @@ SLOT 27L AB3     100600   15 ------ 100600 100615 P    0
         "20 ACCEPTED 1\nSLOT 27L AB1     100600   15 ------ 100600 100615 P    0\n",
         "AP,STAND,AB1,A1\n",
     ),
-    ("XX,TOBT,AB1,2025-03-10T06:00Z", "21 REFUSED ROLE\n", ""),
+    (
+        "XX,TOBT,AB1,2025-03-10T06:00Z",
+        "21 REFUSED ROLE: field 1 \"XX\": a role is AO (operator), GH (handler), AP (airport), ATC (tower) or NM (Network Manager)\n",
+        "",
+    ),
     (
         "ATC,CLOCK,2025-03-10T06:05Z",
         "22 ACCEPTED 1\nSLOT 27L AB1     100600   15 ------ 100605 100620 P    5\n",
@@ -135,7 +155,11 @@ SLOT 27L AB3     100600   15 ------ 100600 100615 P    0
         "23 ACCEPTED 1\nSLOT 27L AB1     100600   15 ------ 100605 100620 O ----\n",
         "ATC,OFF,AB1,2025-03-10T06:05Z\n",
     ),
-    ("AO,TOBT,AB1,2025-03-10T06:30Z", "24 REFUSED OFFBLOCK\n", ""),
+    (
+        "AO,TOBT,AB1,2025-03-10T06:30Z",
+        "24 REFUSED OFFBLOCK: AB1 has been off-block since record 16; only AIR may follow\n",
+        "",
+    ),
     (
         "ATC,AIR,AB1,2025-03-10T06:22Z",
         "25 ACCEPTED 1\nSLOT 27L AB1     100600   17 ------ 100605 100622 A ----\n",
@@ -152,7 +176,11 @@ TOTAL PLACED 1 DELAY 25 MAX 25 LATE 1 BLOCKED 0
 ",
         "",
     ),
-    ("AP,FLT,AB4", "27 REFUSED FIELDS\n", ""),
+    (
+        "AP,FLT,AB4",
+        "27 REFUSED FIELDS: FLT takes 4 fields (role, FLT, flight, priority); this record has 3\n",
+        "",
+    ),
     (
         "AP,FLT,AB4,9",
         "28 ACCEPTED 1\nBLOCKED AB4     TOBT\n",

@@ -51,7 +51,7 @@ returns-in_err-answer-clause-fault g c =
 pub returns-in_err-perform-clause-err : goal.returns-in_err-perform-clause-err
 returns-in_err-perform-clause-err g c =
     let hears : HearsLine (g.P.Port.events c.lines.port) (g.P.Port.events c.hear.new.port) (read_as c.in-Some.read) = search rules in
-    let reply : IsReplyTo c.args.format c.lines.day.desk (numbered c.lines.day.number (read_as c.in-Some.read))
+    let reply : IsReplyTo c.args.form c.lines.day.desk (numbered c.lines.day.number (read_as c.in-Some.read))
     (request_of c.lines.day.desk.airport.day (read_as c.in-Some.read)) (text_of c.in_ok-answer.answer) = search rules in
     let stop : Stops (g.P.Port.events c.hear.new.port) (answered c.lines.day.desk (read_as c.in-Some.read) (text_of c.in_ok-answer.answer)) (g.P.Port.events c.perform.new.port) = search rules in
     on_err c.from_residual-in_err-perform.result (midst _ _ _ _ _ _ _ _ c.lines.invariant.ran _ _ _ hears reply _ stop)
@@ -59,7 +59,7 @@ returns-in_err-perform-clause-err g c =
 pub lines-preserved : goal.lines-preserved
 lines-preserved g c =
     let hears : HearsLine (g.P.Port.events c.lines.port) (g.P.Port.events c.hear.new.port) (read_as c.in-Some.read) = search rules in
-    let reply : IsReplyTo c.args.format c.lines.day.desk (numbered c.lines.day.number (read_as c.in-Some.read))
+    let reply : IsReplyTo c.args.form c.lines.day.desk (numbered c.lines.day.number (read_as c.in-Some.read))
     (request_of c.lines.day.desk.airport.day (read_as c.in-Some.read)) (text_of c.in_ok-answer.answer) = search rules in
     let was : g.P.Port.events c.perform.new.port ≡ g.P.Port.events c.hear.new.port ++ answered c.lines.day.desk (read_as c.in-Some.read) (text_of c.in_ok-answer.answer) = search rules in
     let next : c.answer.new.self.desk ≡ after c.lines.day.desk (read_as c.in-Some.read) = search rules in
