@@ -12,13 +12,20 @@ use cdm_flight::{FlightName, RunwayName};
 use cdm_kinds::Format;
 use cdm_phase::Workers;
 use cdm_scenario::ScenarioName;
-use cdm_table::Table;
+use cdm_table::{Each, StepMinutes, Table};
+use cdm_time::Day;
 use cdm_view::Question;
 use clap::error::ErrorKind;
 use clap::{ArgMatches, Error as ParseError};
 use std::alloc::{AllocError, Global};
 use std::convert::AsStr;
 use thiserror::Error;
+
+/// How many steps scenarios are tried at, at most (local profile).
+const MOST_STEPS: u16 = 1440;
+
+/// How the steps are written at which scenarios are tried.
+const EACH_FORM: &str = "write FROM..TO/STEP, as 2025-03-10T06:00Z..2025-03-10T10:00Z/5";
 
 /// The path that means standard input.
 pub const STANDARD_INPUT: &str = "-";
@@ -328,7 +335,7 @@ fn workers_of(alloc: Global, words: &ArgMatches<'_>) -> Result<Workers, CommandF
     }
 }
 
-// The words of `compare`, all of which the parser has seen to but the number of workers and the form of the scenario's name.
+// The words of `compare`, all of which the parser has seen to but the number of workers, the form of the scenario's name and the steps.
 fn compare_of<'a>(
     alloc: Global,
     compare: &ArgMatches<'a>,
@@ -337,19 +344,104 @@ fn compare_of<'a>(
         Some(word) => Some(scenario_in(alloc, word, "[NAME]")?),
         None => None,
     };
-    let table = match (compare.get_str("format"), name) {
-        (Some("csv"), None) => Table::ComparisonCsv,
-        (Some("csv"), Some(_)) => {
-            return Err(wrong_words(
-                alloc,
-                "with --format csv no scenario can be named: rows have no room for what changes by it",
-            )?);
-        }
-        (Some("json"), name) => Table::ComparisonJson(name),
-        (_, name) => Table::Comparison(name),
+    let table = match compare.get_str("each") {
+        Some(word) => sweep_of(alloc, word, name, compare.get_str("format"))?,
+        None => comparison_of(alloc, name, compare.get_str("format"))?,
     };
     let scenarios = compare.get_str("SCENARIOS");
     told_by_many(alloc, compare, scenarios, DayText::Table(table))
+}
+
+// A comparison of scenarios as they are.
+fn comparison_of(
+    alloc: Global,
+    name: Option<ScenarioName>,
+    format: Option<&str>,
+) -> Result<Table, CommandFault> {
+    match (format, name) {
+        (Some("csv"), None) => Ok(Table::ComparisonCsv),
+        (Some("csv"), Some(_)) => Err(wrong_words(
+            alloc,
+            "with --format csv no scenario can be named: rows have no room for what changes by it",
+        )?),
+        (Some("json"), name) => Ok(Table::ComparisonJson(name)),
+        (_, name) => Ok(Table::Comparison(name)),
+    }
+}
+
+// A comparison of scenarios that are tried at each of the steps that a word gives.
+fn sweep_of(
+    alloc: Global,
+    word: &str,
+    name: Option<ScenarioName>,
+    format: Option<&str>,
+) -> Result<Table, CommandFault> {
+    if name.is_some() {
+        return Err(wrong_words(
+            alloc,
+            "with --each no scenario can be named: write the best time into SCENARIOS, and name it without --each",
+        )?);
+    }
+    let each = match each_in(word) {
+        Ok(each) => each,
+        Err(form) => return Err(wrong_value(alloc, word, "--each <STEPS>", form)?),
+    };
+    match format {
+        Some("csv") => Err(wrong_words(alloc, "with --each the format is text or json")?),
+        Some("json") => Ok(Table::SweepJson(each)),
+        _ => Ok(Table::Sweep(each)),
+    }
+}
+
+// The steps that a word gives, or what is wrong with it.
+fn each_in(word: &str) -> Result<Each, &'static str> {
+    let Some((ends, step)) = word.split_once('/') else {
+        return Err(EACH_FORM);
+    };
+    let Some((from, to)) = ends.split_once("..") else {
+        return Err(EACH_FORM);
+    };
+    let (Ok(from), Ok(to)) = (time_text_of(from), time_text_of(to)) else {
+        return Err(EACH_FORM);
+    };
+    match step
+        .parse::<u16>()
+        .ok()
+        .and_then(|minutes| StepMinutes::new(minutes))
+    {
+        Some(step) => steps_in(Each { from, to, step }),
+        None => Err("STEP is a whole number of minutes from 1 to 2880"),
+    }
+}
+
+// The time that a word writes, as its bytes.
+fn time_text_of(word: &str) -> Result<[u8; 17], ()> {
+    match Since::new(word.as_bytes()) {
+        Some(_) => {
+            let mut text = [0; 17];
+            text.copy_from_slice(word.as_bytes());
+            Ok(text)
+        }
+        None => Err(()),
+    }
+}
+
+// The steps, if TO is in the two days from FROM's day on and not before FROM, and they aren't too many.
+fn steps_in(each: Each) -> Result<Each, &'static str> {
+    let Ok(day) = Day::of_text(&each.from[..10]) else {
+        return Err("FROM is no day of the years 2000 to 2099");
+    };
+    match (day.minute_of(&each.from), day.minute_of(&each.to)) {
+        (Ok(from), Ok(to)) if to < from => Err("TO is before FROM"),
+        (Ok(from), Ok(to)) => {
+            let steps = (to.get() - from.get()) / each.step.get() + 1;
+            if steps > MOST_STEPS {
+                return Err("at most 1440 steps are tried");
+            }
+            Ok(each)
+        }
+        _ => Err("TO is before FROM, or after the day that follows FROM's"),
+    }
 }
 
 // The scenario that a word names.

@@ -106,6 +106,8 @@ pub const COMPARE_EXAMPLE: &str = "\
 Examples:
   cdmseq compare airport.csv feed.csv what_if.csv
   cdmseq compare airport.csv feed.csv what_if.csv SHUT
+  cdmseq compare airport.csv feed.csv what_if.csv \\
+    --each 2025-03-10T06:00Z..2025-03-10T07:00Z/5
 - reads standard input in place of one file.
 Full manual: cdmseq help | less";
 
@@ -461,6 +463,17 @@ COMPARE
            scenario. SLOT has the runway and the flight's line. If an update of
            the scenario that you name is refused, there is no comparison, and
            the status is 3.
+  --each   tries each scenario at each step from FROM up to TO, every STEP
+           minutes, as --each 2025-03-10T06:00Z..2025-03-10T07:00Z/5: its
+           earliest time is moved to the step, and the times of TOBT, CTOT,
+           RATE, CLOSE and OPEN move together. CLOCK, OFF and AIR stay. A
+           scenario without a time that moves is tried once. A column AT has
+           the step. Of equal lines the earlier step comes first. A time that
+           leaves the airport's two days is REFUSED by RANGE. At most 1440
+           steps, with text or json, and without the name of a scenario.
+
+  A scenario named - is refused by EXISTS, and so is the whole comparison: - is
+  the base plan.
 
 WHY
   cdmseq why airport.csv feed.csv AB1 prints:
@@ -706,7 +719,8 @@ JSON
   warnings kind, flight, runway, time, ctot, ttot, rule, placed, cap
   causes   group, placed, delay, ice, ctot, closure, spacing, rate, now, blocked
   compare  scenario, placed, delay, max, late, blocked, moved; and if you name a
-           scenario flight, before and after for each flight that it changes
+           scenario flight, before and after for each flight that it changes.
+           With --each at (the step, or null) after scenario
   why      row (the flight's columns), ice (kind, minutes), now, waits (from,
            to, reason, cap, flights)
   options  flight, now, ttot, rule, ctot, placed, delay, max, late, blocked,

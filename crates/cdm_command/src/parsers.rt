@@ -118,6 +118,7 @@ fn compare_parser<'a>(alloc: Global) -> Result<Parser<'a>, AllocError> {
     day_parser(alloc, "compare", COMPARE_ABOUT, COMPARE_EXAMPLE)?
         .arg(required_arg(alloc, "SCENARIOS", OVER_THE_FEED))?
         .arg(named_arg(alloc))?
+        .arg(each_arg(alloc))?
         .arg(format_arg(
             alloc,
             TABLE_FORMATS,
@@ -132,6 +133,14 @@ fn named_arg<'a>(alloc: Global) -> Arg<'a> {
     Arg::new(alloc, "NAME")
         .allow_negative_numbers(true)
         .help("List the flights that this scenario changes")
+}
+
+// The steps at which a comparison tries the scenarios.
+fn each_arg<'a>(alloc: Global) -> Arg<'a> {
+    Arg::new(alloc, "each")
+        .long("each")
+        .value_name("STEPS")
+        .help("Try each scenario at FROM..TO/STEP, at most 1440 steps")
 }
 
 // The words that `picture` takes.

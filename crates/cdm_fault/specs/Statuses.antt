@@ -31,6 +31,7 @@ abbrev pub status_of_fault : Fault → ℕ
 status_of_fault (fault.CannotOpen input file) = 1
 status_of_fault fault.NoMemory = 1
 status_of_fault (fault.ShortStack bytes) = 1
+status_of_fault fault.OtherSteps = 2
 status_of_fault (fault.Run (run.Common e)) = status_of_common e
 status_of_fault (fault.Run (run.Scenario number word)) = 3
 status_of_fault (fault.Run (run.NoFlight name)) = 3

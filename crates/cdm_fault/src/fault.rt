@@ -31,6 +31,9 @@ pub enum Fault {
     /// The system gives the program so many bytes of stack, fewer than [`LEAST_STACK`].
     #[error("the stack has {0} bytes, and {LEAST_STACK} are needed")]
     ShortStack(u64),
+    /// A time of the steps at which scenarios are tried isn't one of the airport's two days.
+    #[error("--each names a time outside the airport's two days")]
+    OtherSteps,
     /// The run has not written its whole text.
     #[error(transparent)]
     Run(#[from] RunError),
@@ -73,7 +76,7 @@ impl Fault {
             Fault::Run(RunError::Common(fault))
             | Fault::Live(LiveError::Common(fault))
             | Fault::Serve(ServeError::Common(fault)) => common_status(*fault),
-            Fault::Run(RunError::OtherDay) => USAGE_STATUS,
+            Fault::OtherSteps | Fault::Run(RunError::OtherDay) => USAGE_STATUS,
             Fault::Run(
                 RunError::Scenario(..)
                 | RunError::NoFlight(_)

@@ -7,7 +7,7 @@ use Rattle.cdm_files.specs.{AirportFile.airport_in, CommonFaults.IsAirportFault,
 use Rattle.cdm_files.specs.declared.{common_fault.CommonFault.CommonFault, run_error.RunError.RunError}
 use Rattle.cdm_files.specs.declared.common_fault.CommonFault.TheVariants as common
 use Rattle.cdm_files.specs.declared.run_error.RunError.TheVariants as error
-use Rattle.cdm_feed.specs.{Made.{IsMade, IsTextOf, IsUnmade, IsUntold}, declared.asked.DayText.DayText}
+use Rattle.cdm_feed.specs.{Made.{IsMade, IsScenarioFault, IsTextOf, IsUnmade, IsUntold}, declared.asked.DayText.DayText}
 use Rattle.cdm_feed.specs.declared.asked.DayText.TheVariants.{Plan, Table, Picture, Answer, Trace, Options}
 use Rattle.cdm_feed.specs.declared.asked.Asked.TheVariants as ask
 use Rattle.cdm_feed.specs.declared.counted.Counted.{Counted}
@@ -29,16 +29,6 @@ common_fault (Trace flight since format) a d questions _ is = absurd is
 common_fault (Options flight role format) a d questions common.Memory is = tt
 common_fault (Options flight role format) a d questions _ is = absurd is
 
--- and no faulty record
-no_record : (asked : DayText) (d : DayRecord) (questions : List ScenarioRecord) (number : ℕ) (word : RefusalWord)
-    → IsUntold asked d questions (error.Scenario number word) → ⊥
-no_record (Plan format) d questions number word is = is
-no_record (Table table) d questions number word is = is
-no_record Picture d questions number word is = is
-no_record (Answer question scenario format) d questions number word is = is
-no_record (Trace flight since format) d questions number word is = is
-no_record (Options flight role format) d questions number word is = is
-
 module _ (a f s : List ℕ) (g : AirportRows) (questions : List ScenarioRecord) (airport : airport_in a ≡ Ok g) (scenarios : scenarios_in g.day s ≡ Ok questions) where
   -- what is so of this airport and these scenarios is so of those that the files say
   there : (P : AirportRows → List ScenarioRecord → Type 0) → P g questions → IsOkAnd (airport_in a) (λ h. IsOkAnd (scenarios_in h.day s) (P h))
@@ -49,7 +39,9 @@ module _ (a f s : List ℕ) (g : AirportRows) (questions : List ScenarioRecord) 
   -- why nothing is made
   pub unmade : (asked : DayText) (e : RunError) → IsUntold asked (day_in g f) questions e → IsUnmade (ask.Day asked) a f s e
   unmade asked (error.Common fault) is = common_fault asked a (day_in g f) questions fault is
-  unmade asked (error.Scenario number word) is = absurd (no_record asked (day_in g f) questions number word is)
+  unmade asked (error.Scenario number word) is =
+      subst (λ (r : Result AirportRows (ℕ × RefusalWord)). IsOkAnd r (λ h. IsScenarioFault asked (day_in h f) (scenarios_in h.day s) number word)) (sym airport)
+      (subst (λ (r : Result (List ScenarioRecord) (ℕ × RefusalWord)). IsScenarioFault asked (day_in g f) r number word) (sym scenarios) is)
   unmade asked (error.NoFlight name) is = there (λ h q. IsUntold asked (day_in h f) q (error.NoFlight name)) is
   unmade asked (error.NotPlanned name status) is = there (λ h q. IsUntold asked (day_in h f) q (error.NotPlanned name status)) is
   unmade asked (error.NoRunway name) is = there (λ h q. IsUntold asked (day_in h f) q (error.NoRunway name)) is

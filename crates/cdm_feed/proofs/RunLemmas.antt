@@ -1,12 +1,15 @@
 -- The first fault of a run, by why its whole inputs make no text.
 use Rattle.std.proofs.{Common.{◌≡◌, ◌∙◌, ℕ, List, Option, IfSome, Result, Ok, Err, ap, refl, sym, subst}, lemmas.Option.IfSome_then}
 use Rattle.std.specs.{Prelude.{⊤, IsOk}, Result.{IsErrOf, IsOkAnd}}
-use Rattle.cdm_files.specs.{AirportFile.airport_in, CommonFaults.{IsAirportFault, IsFirstInputFault}, Readings.{AreRead, OfBytes, OfRead, Reading}}
+use Rattle.cdm_flight.specs.{Journal.AirportRows, declared.word.RefusalWord.RefusalWord}
+use Rattle.cdm_plan.specs.Day.{DayRecord}
+use Rattle.cdm_scenario.specs.Scenarios.{ScenarioRecord}
+use Rattle.cdm_files.specs.{AirportFile.airport_in, CommonFaults.{IsAirportFault, IsFirstInputFault}, FeedDay.day_in, Readings.{AreRead, OfBytes, OfRead, Reading}}
 use Rattle.cdm_files.specs.{RunFaults.{Asks, IsFirstFault, IsRecordFault}, ScenarioFile.scenarios_in}
 use Rattle.cdm_files.specs.declared.{common_fault.CommonFault.CommonFault, run_error.RunError.RunError}
 use Rattle.cdm_files.specs.declared.common_fault.CommonFault.TheVariants as common
 use Rattle.cdm_files.specs.declared.run_error.RunError.TheVariants as error
-use Rattle.cdm_feed.specs.{Made.{HaveText, IsFirstOf, IsMade, IsUnmade}, Output.IsOutput, Counts.day_counts}
+use Rattle.cdm_feed.specs.{Made.{HaveText, IsFirstOf, IsMade, IsScenarioFault, IsUnmade}, Output.IsOutput, Counts.day_counts}
 use Rattle.cdm_feed.specs.declared.{asked.DayText.DayText, asked.Asked.Asked, counted.Counted.Counted}
 use Rattle.cdm_kinds.specs.declared.format.Format.TheVariants.{Text}
 use Rattle.cdm_feed.specs.declared.asked.DayText.TheVariants as told
@@ -54,11 +57,19 @@ module _ (asked : Asked) (a f s : Reading) (x y z : List ℕ) (read : AreRead a 
   pub write-first : HaveText asked x y z → IsFirstOf asked a f s (error.Common common.Write)
   write-first made = of-given (HaveText asked) a f s x y z read one two three first second third made
 
+-- what follows of the airport file, if it is accepted
+ok-more : {A E : Type 0} (P Q : A → Type 0) (r : Result A E) → ((x : A) → P x → Q x) → IsOkAnd r P → IsOkAnd r Q
+ok-more P Q (Ok x) more is = more x is
+ok-more P Q (Err e) more is = is
+
 -- a faulty record is why they make none
-pub record-unmade : (asked : DayText) (a f s : List ℕ) (e : RunError) → IsRecordFault a s e → IsUnmade (ask.Day asked) a f s e
-record-unmade asked a f s (error.Common e) fault = fault
-record-unmade asked a f s (error.Scenario number word) fault = fault
-record-unmade asked a f s _ fault = absurd fault
+pub record_unmade : (asked : DayText) (a f s : List ℕ) (e : RunError) → IsRecordFault a s e → IsUnmade (ask.Day asked) a f s e
+record_unmade asked a f s (error.Common e) fault = fault
+record_unmade asked a f s (error.Scenario number word) fault =
+    ok-more (λ (g : AirportRows). scenarios_in g.day s ≡ Err (number, word)) (λ (g : AirportRows). IsScenarioFault asked (day_in g f) (scenarios_in g.day s) number word)
+    (airport_in a)
+    (λ g is. subst (λ (r : Result (List ScenarioRecord) (ℕ × RefusalWord)). IsScenarioFault asked (day_in g f) r number word) (sym is) refl) fault
+record_unmade asked a f s _ fault = absurd fault
 
 -- Where a report is asked for.
 
@@ -94,6 +105,12 @@ never (Ok g) next h = by (next g) h
     by (Err e) h = h
 never (Err e) next h = h
 
+-- and of its scenarios it refuses none for its name
+plan-fault : (d : DayRecord) (said : Result (List ScenarioRecord) (ℕ × RefusalWord)) (number : ℕ) (word : RefusalWord)
+    → IsScenarioFault (told.Plan Text) d said number word → said ≡ Err (number, word)
+plan-fault d (Err fault) number word is = ap Err is
+plan-fault d (Ok questions) number word is = absurd is
+
 -- and so the first fault is that of a run that makes a report
 pub report-first : (a f s : Reading) (e : RunError) → IsFirstOf (ask.Day (told.Plan Text)) a f s e → IsFirstFault a f s e
 report-first a f s (error.Common common.Write) fault =
@@ -101,8 +118,13 @@ report-first a f s (error.Common common.Write) fault =
 report-first a f s (error.Common (common.Airport number word)) fault =
     (fault.0, IfSome_then a.before fault.1.of_airport (λ bytes same. sym (ap airport_in same) ∙ fault.1.holds.3))
 report-first a f s (error.Common _) fault = fault
-report-first a f s (error.Scenario number word) fault =
-    (fault.0, of-two (Asks (λ said. said ≡ Err (number, word))) a.before f.before s.before (λ x y z h. h.3) fault.1)
+report-first a f s (error.Scenario number word) fault = (
+  fault.0,
+  of-two (Asks (λ said. said ≡ Err (number, word))) a.before f.before s.before
+      (λ x y z h. ok-more (λ (g : AirportRows). IsScenarioFault (told.Plan Text) (day_in g y) (scenarios_in g.day z) number word)
+      (λ (g : AirportRows). scenarios_in g.day z ≡ Err (number, word)) (airport_in x)
+      (λ g is. plan-fault (day_in g y) (scenarios_in g.day z) number word is) h.3) fault.1,
+)
 report-first a f s _ fault = absurd (never (airport_in fault.1.airport) (λ g. scenarios_in g.day fault.1.third) fault.1.holds.3)
 
 -- an error is the same, whatever would have been answered in its place

@@ -4,6 +4,7 @@ use Rattle.std.specs.Option.{IsSomeAnd}
 use Rattle.std.specs.Result.{IsOkAnd}
 use Rattle.cdm_flight.specs.Journal.{AirportRows, flight_of}
 use Rattle.cdm_flight.specs.declared.word.RefusalWord.{RefusalWord}
+use Rattle.cdm_flight.specs.declared.word.RefusalWord.TheVariants.{Exists}
 use Rattle.cdm_options_text.specs.Texts.{IsOptionsText}
 use Rattle.cdm_options.specs.Options.{IsOptionsFault}
 use Rattle.cdm_options.specs.declared.options.OptionsFault.{OptionsFault}
@@ -32,7 +33,6 @@ use Rattle.cdm_files.specs.AirportFile.{airport_in}
 use Rattle.cdm_files.specs.CommonFaults.{IsAirportFault}
 use Rattle.cdm_files.specs.FeedDay.{day_in, refusals_in}
 use Rattle.cdm_files.specs.Readings.{HoldsFirst, IsFailed, IsTooLong, IsUnfailed, OfRead, Reading}
-use Rattle.cdm_files.specs.RunFaults.{Asks}
 use Rattle.cdm_files.specs.ScenarioFile.{scenarios_in}
 use Rattle.cdm_files.specs.declared.common_fault.CommonFault.TheVariants as common
 use Rattle.cdm_files.specs.declared.run_error.RunError.{RunError}
@@ -112,7 +112,9 @@ HaveOne asked a f s = (x y : List ℕ) (c d : Counted) → IsMade asked a f s x 
 
 -- a table that isn't made, a question without an answer, and a flight that nothing could help, as errors of a run
 abbrev pub table_error : TableFault → RunError
+table_error (untabled.NamedAsDay number) = error.Scenario number Exists
 table_error (untabled.NoScenario name) = error.NoScenario name
+table_error untabled.OtherDay = error.OtherDay
 table_error (untabled.Refused name number word) = error.Update name number word
 table_error untabled.Memory = error.Common common.Memory
 
@@ -127,7 +129,8 @@ options_error (options.NotPlanned name status) = error.NotPlanned name status
 options_error options.Memory = error.Common common.Memory
 
 -- why this isn't told of a day and scenarios: what is asked for isn't known, an update of the scenario is refused, the flight that is
--- to be helped has left its stand or won't depart, or there is no memory. A trace is asked for its time before its flight.
+-- to be helped has left its stand or won't depart, a scenario has the name that a comparison has for the day itself, or there is no
+-- memory. A trace is asked for its time before its flight.
 abbrev pub IsUntold : DayText → DayRecord → List ScenarioRecord → RunError → Type 0
 IsUntold asked d questions (error.Common common.Memory) = ⊤
 IsUntold (Answer question scenario format) d questions (error.NoFlight name) = HasNoView question (IsAskedOf scenario d questions) (view.NoFlight name)
@@ -140,9 +143,16 @@ IsUntold (Trace flight since format) d questions error.OtherDay = IsErr (from_mi
 IsUntold (Options flight role format) d questions (error.NoFlight name) = IsOptionsFault (flight_of d.airport d.journal flight) flight (options.NoFlight name)
 IsUntold (Options flight role format) d questions (error.NotPlanned name status) =
     IsOptionsFault (flight_of d.airport d.journal flight) flight (options.NotPlanned name status)
+IsUntold (Table table) d questions (error.Scenario number word) = (word ≡ Exists) × IsTableFault d questions table (untabled.NamedAsDay number)
 IsUntold (Table table) d questions (error.NoScenario name) = IsTableFault d questions table (untabled.NoScenario name)
+IsUntold (Table table) d questions error.OtherDay = IsTableFault d questions table untabled.OtherDay
 IsUntold (Table table) d questions (error.Update name number word) = IsTableFault d questions table (untabled.Refused name number word)
 IsUntold asked d questions fault = ⊥
+
+-- the record of the scenario file that is faulty, or that gives a scenario the name that a comparison has for the day itself
+abbrev pub IsScenarioFault : DayText → DayRecord → Result (List ScenarioRecord) (ℕ × RefusalWord) → ℕ → RefusalWord → Type 0
+IsScenarioFault asked d (Err fault) number word = fault ≡ (number, word)
+IsScenarioFault asked d (Ok questions) number word = IsUntold asked d questions (error.Scenario number word)
 
 -- why whole inputs make no such text: the first faulty record, of the airport file or else of the scenario file, what the
 -- day doesn't know, or want of memory. To a check a faulty record is a finding, and no fault. Where a day is carried over, the third
@@ -151,7 +161,8 @@ abbrev pub IsUnmade : Asked → List ℕ → List ℕ → List ℕ → RunError 
 IsUnmade (ask.Check paths format) a f s fault = fault ≡ error.Common common.Memory
 IsUnmade (ask.Carry carry) a f s fault = IsUncarried a s fault
 IsUnmade (ask.Day asked) a f s (error.Common fault) = IsAirportFault a fault
-IsUnmade (ask.Day asked) a f s (error.Scenario number word) = Asks (λ said. said ≡ Err (number, word)) a s
+IsUnmade (ask.Day asked) a f s (error.Scenario number word) =
+    IsOkAnd (airport_in a) (λ g. IsScenarioFault asked (day_in g f) (scenarios_in g.day s) number word)
 IsUnmade (ask.Day asked) a f s fault =
     IsOkAnd (airport_in a) (λ g. IsOkAnd (scenarios_in g.day s) (λ questions. IsUntold asked (day_in g f) questions fault))
 

@@ -27,7 +27,7 @@ use cdm_day::{Airport, DayState, Records};
 use cdm_files::{
     AskedDay, CommonFault, Inputs, Lent, RunError, airport_of, asked_day, scenarios_of,
 };
-use cdm_flight::{FlightName, Role, Update};
+use cdm_flight::{FlightName, RefusalWord, Role, Update};
 use cdm_kinds::Format;
 use cdm_options::OptionsFault;
 use cdm_options_text::options_text;
@@ -103,7 +103,9 @@ fn table_error(fault: TableFault) -> RunError
     ensures { result ≡ table_error fault }
 {
     match fault {
+        TableFault::NamedAsDay(number) => RunError::Scenario(number, RefusalWord::Exists),
         TableFault::NoScenario(name) => RunError::NoScenario(name),
+        TableFault::OtherDay => RunError::OtherDay,
         TableFault::Refused(name, number, word) => RunError::Update(name, number, word),
         TableFault::Memory => RunError::Common(CommonFault::Memory),
     }
@@ -306,6 +308,7 @@ fn trace_at(alloc: Global, asked: Tracing, airport: Airport, feed: &[u8]) -> Res
 }
 
 // What is told of the records of the feed, and what is counted of the day that they make. The airport file is dropped before.
+#[tactic(auto, using(crate::proofs::RunLemmas::record_unmade))]
 fn made_of_trace(alloc: Global, asked: Tracing, inputs: Inputs) -> Result<Made, RunError>
     requires { length inputs.second.items ≤ input_limit }
     ensures made { IfOk result (λ made. IsMade (Asked.Day (DayText.Trace asked.flight asked.since asked.format)) inputs.airport.items inputs.second.items inputs.third.items made.text.items made.counted) }
@@ -362,6 +365,7 @@ fn made_with(text: Vec<u8>, day: &AskedDay) -> Made
 }
 
 // What is told of the day and the scenarios that the inputs make.
+#[tactic(auto, using(crate::proofs::RunLemmas::record_unmade))]
 fn made_of_day<R: Threads + Sync, G: Gate>(
     lent: &Lent<'_, R, G>,
     asked: DayText,

@@ -38,8 +38,9 @@ pub struct RunCounts {
 /// At `Ok` the three inputs were read to their ends, and the whole text was written and flushed. It returns the counts. Faults in their
 /// order: `Read` and `TooLong` of the airport file, of the feed and of the third file; `Airport`, and `Scenario` or `NextAirport`, the
 /// first faulty record of that file and its word, unless a check is asked for, to which these are findings; `NextDay`, where the next
-/// airport's day isn't the day after; `NoScenario`, where the scenario that is asked for isn't known; `Update`, its first refused update;
-/// `OtherDay`, where it is asked from a time of another day on; `NoFlight` and `NoRunway`, where what is asked for isn't known;
+/// airport's day isn't the day after; `OtherDay`, where it is asked from a time of another day on, or at steps of another day; `NoScenario`,
+/// where the scenario that is asked for isn't known; `Scenario`, where a scenario of a comparison has the day's name; `Update`, the first
+/// refused update of the scenario that is asked for; `NoFlight` and `NoRunway`, where what is asked for isn't known;
 /// `NotPlanned`, where the flight that is to be helped has left its stand or won't depart; `Memory`, wherever memory was first refused;
 /// `Write`. Before `Write` nothing was written, and at `Write` a prefix of the text was.
 pub fn run_asked<R: Threads + Sync, A: Read, F: Read, T: Read, G: Gate, W: Write>(

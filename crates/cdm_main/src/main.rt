@@ -28,14 +28,15 @@ pub use cdm_fault::{
     report_served_fault,
 };
 use cdm_feed::{
-    Asked, CommonFault, Counted, Device, Input, RunError, WriteFault, airport_of, read_whole,
-    write_text,
+    Asked, CommonFault, Counted, DayText, Device, Input, RunError, WriteFault, airport_of,
+    read_whole, write_text,
 };
 use cdm_kinds::{Format, kinds_text};
 pub use cdm_live::{LiveCounts, LiveError, run_live};
 use cdm_phase::OpenGate;
 use cdm_port::{OpenFault, OpenJournal, Streams};
 use cdm_serve::{ReplyForm, ServeError};
+use cdm_table::Table;
 use std::alloc::{AllocError, Global};
 use std::fs::File;
 use std::io::{BufReader, ErrorKind, IsTerminal, Read, Write};
@@ -153,18 +154,28 @@ fn stop<R: AllocGlobal + Files + io::Input + Threads + Sync, E: Write>(
 fn report<E: Write>(command: &Command<'_>, fault: &Fault, console: &mut Console<'_, E>) -> u8
     ensures { result ≡ status_of_fault fault.now }
 {
-    match command {
-        Command::Serve {
-            airport,
-            journal,
-            ..
-        } => {
+    match (command, fault) {
+        (
+            Command::Serve {
+                airport,
+                journal,
+                ..
+            },
+            _,
+        ) => {
             let files = ServedFiles {
                 airport: *airport,
                 journal: *journal,
             };
             report_served_fault(fault, files, &mut console.errors)
         }
+        (
+            Command::Tell {
+                text: DayText::Table(Table::Sweep(_) | Table::SweepJson(_)),
+                ..
+            },
+            Fault::Run(RunError::OtherDay),
+        ) => report_fault(&Fault::OtherSteps, &mut console.errors),
         _ => report_fault(fault, &mut console.errors),
     }
 }

@@ -7,8 +7,10 @@ use Rattle.std.specs.Option.{option_map_or}
 use Rattle.std.specs.Ordering.{bool_cmp, nat_cmp, ordering_then}
 use Rattle.cdm_time.specs.declared.calendar.CalendarDate.{CalendarDate}
 use Rattle.cdm_flight.specs.Names.{same_name}
+use Rattle.cdm_flight.specs.declared.update.Update.{Update}
 use Rattle.cdm_flight.specs.Words.{text_of}
 use Rattle.cdm_flight.specs.declared.word.RefusalWord.{RefusalWord}
+use Rattle.cdm_flight.specs.declared.word.RefusalWord.TheVariants.{Range}
 use Rattle.cdm_sequence.specs.declared.plan.Plan.{Plan}
 use Rattle.cdm_report.specs.Columns.{left_in, right_in}
 use Rattle.cdm_report.specs.Counts.{counts_of}
@@ -23,39 +25,47 @@ use Rattle.cdm_scenario.specs.Overlay.{with_updates}
 use Rattle.cdm_scenario.specs.Scenarios.{ScenarioRecord}
 use Rattle.cdm_scenario.specs.declared.outcome.Outcome.TheVariants.{Planned, Refused}
 use Rattle.cdm_csv.specs.Rows.{csv_text}
+use Rattle.cdm_table.specs.Moved.{TryRecord, as_it_is, tried_updates}
 use Rattle.cdm_table.specs.declared.line.Line.{Line}
 use Rattle.cdm_table.specs.declared.line.Summary.{Summary}
 use Rattle.cdm_table.specs.declared.line.Summary.TheVariants as summary
 
--- What comes of a scenario.
+-- What comes of updates.
 
 -- the indicators of the plan with all updates, and the standings that differ from those of the day; or the number of the
 -- first update that is refused, and its word
-abbrev pub IsChanged : DayRecord → ScenarioRecord → Result (Counts × List Standing) (ℕ × RefusalWord) → Type 0
-IsChanged d s (Ok (counts, changed)) =
-    (plan : Plan) × IsOutcome d s.updates (Planned plan counts) × IsChangedTo d (with_updates d s.updates) changed
-IsChanged d s (Err (number, word)) = IsOutcome d s.updates (Refused number word)
+abbrev pub IsChanged : DayRecord → List Update → Result (Counts × List Standing) (ℕ × RefusalWord) → Type 0
+IsChanged d us (Ok (counts, changed)) = (plan : Plan) × IsOutcome d us (Planned plan counts) × IsChangedTo d (with_updates d us) changed
+IsChanged d us (Err (number, word)) = IsOutcome d us (Refused number word)
 
 -- in numbers: how many standings differ
 abbrev pub summary_of : Result (Counts × List Standing) (ℕ × RefusalWord) → Summary
 summary_of (Ok (counts, changed)) = summary.Planned counts (length changed)
 summary_of (Err (number, word)) = summary.Refused number word
 
-abbrev pub IsSummary : DayRecord → ScenarioRecord → Summary → Type 0
-IsSummary d s is = (by : Result (Counts × List Standing) (ℕ × RefusalWord)) × IsChanged d s by × (is ≡ summary_of by)
+abbrev pub IsSummary : DayRecord → List Update → Summary → Type 0
+IsSummary d us is = (by : Result (Counts × List Standing) (ℕ × RefusalWord)) × IsChanged d us by × (is ≡ summary_of by)
+
+-- of a try: RANGE refuses a time that leaves the horizon
+abbrev pub IsSummaryBy : DayRecord → Result (List Update) ℕ → Summary → Type 0
+IsSummaryBy d (Ok us) is = IsSummary d us is
+IsSummaryBy d (Err number) is = is ≡ summary.Refused number Range
+
+abbrev pub IsTried : DayRecord → TryRecord → Summary → Type 0
+IsTried d t is = IsSummaryBy d (tried_updates t) is
 
 -- Lines and their order.
 
--- the lines of scenarios, by their places in the file
-unfoldable pub lines_from : ℕ → List ScenarioRecord → List Summary → List Line
-lines_from place (s ∷ scenarios) (is ∷ summaries) =
-    record { place = place; name = Some s.name; summary = is } ∷ lines_from (place + 1) scenarios summaries
+-- the lines of tries, by their places
+unfoldable pub lines_from : ℕ → List TryRecord → List Summary → List Line
+lines_from place (t ∷ tries) (is ∷ summaries) =
+    record { place = place; name = Some t.scenario.name; at = t.at; summary = is } ∷ lines_from (place + 1) tries summaries
 lines_from place _ _ = []
 
--- the day's own line, and those of the scenarios
-abbrev pub all_lines : Counts → List ScenarioRecord → List Summary → List Line
-all_lines counts scenarios summaries =
-    record { place = 0; name = None; summary = summary.Planned counts 0 } ∷ lines_from 1 scenarios summaries
+-- the day's own line, and those of the tries
+abbrev pub all_lines : Counts → List TryRecord → List Summary → List Line
+all_lines counts tries summaries =
+    record { place = 0; name = None; at = None; summary = summary.Planned counts 0 } ∷ lines_from 1 tries summaries
 
 abbrev pub is_refused : Summary → Bool
 is_refused (summary.Planned counts moved) = false
@@ -118,20 +128,20 @@ abbrev pub IsToldIf : DayRecord → List Standing → Option DayRecord → List 
 IsToldIf d before None text = text ≡ []
 IsToldIf d before (Some next) text = AreTold d before next text
 
--- the lines of the day, on which flights stand so, and of its scenarios, the best first
-pub record AreRanked (d : DayRecord) (scenarios : List ScenarioRecord) (before : List Standing) (ranked : List Line) : Type 0 where
+-- the lines of the day, on which flights stand so, and of tries over it, the best first
+pub record AreRanked (d : DayRecord) (tries : List TryRecord) (before : List Standing) (ranked : List Line) : Type 0 where
   pub plan : Plan
   pub of_day : IsDayPlan d plan
   pub stand : AreStandings d plan before
   pub summaries : List Summary
-  pub of_scenarios : AllZip (IsSummary d) scenarios summaries
-  pub ranking : IsRanking (all_lines (counts_of plan) scenarios summaries) ranked
+  pub of_tries : AllZip (IsTried d) tries summaries
+  pub ranking : IsRanking (all_lines (counts_of plan) tries summaries) ranked
 
 -- a line for the day and one for each scenario, the best first, and then what is told of the day by the one asked for
 pub record IsComparison (d : DayRecord) (scenarios : List ScenarioRecord) (asked : Option DayRecord) (text : List ℕ) : Type 0 where
   pub before : List Standing
   pub ranked : List Line
-  pub lines : AreRanked d scenarios before ranked
+  pub lines : AreRanked d (map as_it_is scenarios) before ranked
   pub told : List ℕ
   pub of_asked : IsToldIf d before asked told
   pub bytes : text ≡ heading ++ flat_map line_text ranked ++ told
@@ -163,5 +173,5 @@ line_fields line = unwrap_or line.name [] ∷ summary_fields line.summary
 pub record IsComparisonCsv (d : DayRecord) (scenarios : List ScenarioRecord) (text : List ℕ) : Type 0 where
   pub before : List Standing
   pub ranked : List Line
-  pub lines : AreRanked d scenarios before ranked
+  pub lines : AreRanked d (map as_it_is scenarios) before ranked
   pub bytes : text ≡ csv_text (line_columns ∷ map line_fields ranked)

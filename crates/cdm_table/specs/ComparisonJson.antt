@@ -1,5 +1,5 @@
 -- A day and its scenarios side by side as JSON.
-use Rattle.std.specs.Prelude.{◌≡◌, ℕ, List, [], ◌∷◌, ◌++◌, codes, flat_map, Option, None, Some}
+use Rattle.std.specs.Prelude.{◌≡◌, ℕ, List, [], ◌∷◌, ◌++◌, codes, flat_map, map, Option, None, Some}
 use Rattle.json.specs.Json.{Json, string}
 use Rattle.cdm_time.specs.declared.calendar.CalendarDate.{CalendarDate}
 use Rattle.cdm_sequence.specs.declared.plan.Plan.{Plan}
@@ -15,6 +15,7 @@ use Rattle.cdm_scenario.specs.Scenarios.{ScenarioRecord}
 use Rattle.cdm_json.specs.Lines.{json_line}
 use Rattle.cdm_json.specs.Plans.{count_members}
 use Rattle.cdm_table.specs.Comparison.{AreRanked}
+use Rattle.cdm_table.specs.Moved.{as_it_is}
 use Rattle.cdm_table.specs.Plans.{refusal_members}
 use Rattle.cdm_table.specs.declared.line.Line.{Line}
 use Rattle.cdm_table.specs.declared.line.Summary.{Summary}
@@ -66,7 +67,7 @@ AreChangeLinesIf d (Some next) text = AreChangeLines d next text
 pub record IsComparisonJson (d : DayRecord) (scenarios : List ScenarioRecord) (asked : Option DayRecord) (text : List ℕ) : Type 0 where
   pub stood : List Standing
   pub ranked : List Line
-  pub lines : AreRanked d scenarios stood ranked
+  pub lines : AreRanked d (map as_it_is scenarios) stood ranked
   pub told : List ℕ
   pub of_asked : AreChangeLinesIf d asked told
   pub bytes : text ≡ flat_map summary_line ranked ++ told

@@ -1,6 +1,9 @@
 pub mod Rows
+pub mod Moved
+pub mod Steps
 pub mod Comparison
 pub mod Plans
 pub mod ComparisonJson
+pub mod Sweep
 pub mod Tables
 pub mod inner

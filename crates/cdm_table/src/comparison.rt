@@ -6,6 +6,7 @@ ghost use Rattle.cdm_table.specs.Comparison.{AreTold, IsComparison, IsToldIf, ch
 
 use crate::line::{Line, Summary};
 use crate::ranking::{Ranking, ranked_lines};
+use crate::tries::as_they_are;
 use cdm_day::{DayState, Records};
 use cdm_phase::Gate;
 use cdm_plan::Runner;
@@ -39,8 +40,8 @@ impl fmt::Display for Summary {
     }
 }
 
-// The name of a scenario, or a hyphen for the day itself.
-fn name_text(name: &Option<ScenarioName>) -> &str
+/// The name of a scenario, or a hyphen for the day itself.
+pub(crate) fn name_text(name: &Option<ScenarioName>) -> &str
     ensures value { result.now ≡ unwrap_or name.now (codes "-") }
     ensures ascii { (k : ℕ) → slice_index result.now k < 128 }
     ensures short { length result.now ≤ 16 }
@@ -180,7 +181,8 @@ pub(crate) fn comparison<R: Threads + Sync, G: Gate>(
 ) -> Result<Vec<u8>, AllocError>
     ensures { IfOk result (λ text. IsComparison base.now scenarios.now (option_copied asked.entry) text.items) }
 {
-    let Ranking { before, lines } = ranked_lines(alloc, base, scenarios, runner)?;
+    let tries = as_they_are(alloc, scenarios)?;
+    let Ranking { before, lines } = ranked_lines(alloc, base, &tries, runner)?;
     let mut text = lines_text(alloc, &lines)?;
     text.extend_from_slice(&told(alloc, base, &before, asked)?)?;
     Ok(text)

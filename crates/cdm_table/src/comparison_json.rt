@@ -9,6 +9,7 @@ ghost use Rattle.cdm_table.specs.ComparisonJson.{AreChangeLines, AreChangeLinesI
 use crate::line::{Line, Summary};
 use crate::plans::push_refusal;
 use crate::ranking::{Ranking, ranked_lines};
+use crate::tries::as_they_are;
 use cdm_day::{DayState, Records};
 use cdm_flight::FlightName;
 use cdm_json::{begin_line, end_line, push_counts};
@@ -22,8 +23,11 @@ use json::Writer;
 use std::alloc::{AllocError, Global};
 use std::thread::Threads;
 
-// Writes the name of a scenario, or null for the day itself.
-fn push_name(writer: &mut Writer<Global>, name: &Option<ScenarioName>) -> Result<(), AllocError>
+/// Writes the name of a scenario, or null for the day itself.
+pub(crate) fn push_name(
+    writer: &mut Writer<Global>,
+    name: &Option<ScenarioName>,
+) -> Result<(), AllocError>
     ensures tokens { OnOk result (writer.new.tokens ≡ writer.old.tokens ++ flat_map member_tokens (name_members name.now)) }
     ensures before { writer.new.before ≡ writer.old.before }
 {
@@ -34,8 +38,8 @@ fn push_name(writer: &mut Writer<Global>, name: &Option<ScenarioName>) -> Result
     }
 }
 
-// Writes what comes of a scenario.
-fn push_summary(writer: &mut Writer<Global>, summary: &Summary) -> Result<(), AllocError>
+/// Writes what comes of a scenario.
+pub(crate) fn push_summary(writer: &mut Writer<Global>, summary: &Summary) -> Result<(), AllocError>
     ensures tokens { OnOk result (writer.new.tokens ≡ writer.old.tokens ++ flat_map member_tokens (summary_members summary.now)) }
     ensures before { writer.new.before ≡ writer.old.before }
 {
@@ -190,7 +194,8 @@ pub(crate) fn comparison_json<R: Threads + Sync, G: Gate>(
 ) -> Result<Vec<u8>, AllocError>
     ensures { IfOk result (λ text. IsComparisonJson base.now scenarios.now (option_copied asked.entry) text.items) }
 {
-    let Ranking { before: _, lines } = ranked_lines(alloc, base, scenarios, runner)?;
+    let tries = as_they_are(alloc, scenarios)?;
+    let Ranking { before: _, lines } = ranked_lines(alloc, base, &tries, runner)?;
     let mut text = lines_text(alloc, &lines)?;
     text.extend_from_slice(&told(alloc, base, asked)?)?;
     Ok(text)

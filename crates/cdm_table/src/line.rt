@@ -5,6 +5,7 @@ ghost use Rattle.cdm_table.specs.Comparison.{blocked_in, delay_in, is_refused, l
 use cdm_flight::RefusalWord;
 use cdm_report::Counts;
 use cdm_scenario::ScenarioName;
+use cdm_time::Minute;
 
 /// What comes of a day by a scenario, in numbers.
 #[derive(Clone, Copy, PartialEq, Eq, Debug)]
@@ -15,13 +16,15 @@ pub enum Summary {
     Refused(usize, RefusalWord),
 }
 
-/// The line of a scenario, or of the day itself.
+/// The line of a try, or of the day itself.
 #[derive(Clone, Copy, PartialEq, Eq, Debug)]
 pub struct Line {
-    /// The place in the file, from 1, and 0 for the day itself.
+    /// The place among the tries, from 1, and 0 for the day itself.
     pub place: usize,
     /// The scenario's name, if it isn't the day itself.
     pub name: Option<ScenarioName>,
+    /// The minute to which it is moved, if it is.
+    pub at: Option<Minute>,
     /// What comes of it.
     pub summary: Summary,
 }
@@ -52,8 +55,8 @@ impl Summary {
     }
 }
 
-/// The lines with the best first: fewer blocked flights, then less delay, then the place in the file; and
-/// behind them those that are refused.
+/// The lines with the best first: fewer blocked flights, then less delay, then the place; and behind them
+/// those that are refused.
 pub(crate) fn ranked(lines: Vec<Line>) -> Vec<Line>
     ensures all { IsPermutation lines.items result.items }
     ensures best_first { IsSorted line_cmp result.items }

@@ -5,6 +5,7 @@ ghost use Rattle.cdm_table.specs.Comparison.{IsComparisonCsv, count_fields, line
 
 use crate::line::{Line, Summary};
 use crate::ranking::ranked_lines;
+use crate::tries::as_they_are;
 use cdm_csv::{Fields, RowWriter};
 use cdm_day::DayState;
 use cdm_phase::Gate;
@@ -105,7 +106,8 @@ pub(crate) fn comparison_csv<R: Threads + Sync, G: Gate>(
 ) -> Result<Vec<u8>, AllocError>
     ensures { IfOk result (λ text. IsComparisonCsv base.now scenarios.now text.items) }
 {
-    let ranking = ranked_lines(alloc, base, scenarios, runner)?;
+    let tries = as_they_are(alloc, scenarios)?;
+    let ranking = ranked_lines(alloc, base, &tries, runner)?;
     let mut fields = line_columns(alloc)?;
     let mut writer = RowWriter::new(alloc);
     let mut text = Vec::new(alloc);

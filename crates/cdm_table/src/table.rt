@@ -1,19 +1,24 @@
 //! Tables over a day and its scenarios.
 ghost use Rattle.std.specs.Prelude.{◌≡◌, ℕ, List, None, Some, IfErr, IfOk, OnOk};
 ghost use Rattle.std.specs.Option.{option_copied};
-ghost use Rattle.cdm_table.specs.Tables.{IsAsked, IsFaultOf, IsLaidIf, IsTable, IsTableFault, asked_day, asked_of, day_by, unknown_in};
+ghost use Rattle.cdm_table.specs.Steps.{steps_of};
+ghost use Rattle.cdm_table.specs.Tables.{IsAsked, IsFaultOf, IsLaidIf, IsNameFault, IsStepFault, IsTable, IsTableFault, asked_day, asked_of, day_by, named_as_day, unknown_in};
 ghost use Rattle.cdm_table.specs.inner.Refusals.{IsRefusedOr};
 ghost use Rattle.cdm_table.specs.declared.table.TableFault.TheVariants as fault;
 
 use crate::comparison::comparison;
 use crate::comparison_json::comparison_json;
 use crate::csv_rows::csv;
+use crate::each::{Each, steps_of};
 use crate::line_rows::comparison_csv;
+use crate::sweep::sweep;
+use crate::sweep_json::sweep_json;
 use cdm_day::{DayState, Records};
-use cdm_flight::RefusalWord;
+use cdm_flight::{Listed, RefusalWord};
 use cdm_phase::Gate;
 use cdm_plan::Runner;
 use cdm_scenario::{Overlay, Scenario, ScenarioName, scenario_named};
+use cdm_time::Minute;
 use std::alloc::{AllocError, Global};
 use std::thread::Threads;
 
@@ -30,13 +35,21 @@ pub enum Table {
     /// A line of JSON for the day and for each scenario, the best first, and then one for each flight that stands
     /// otherwise by the scenario of this name, if one is asked for, with its Rows before and after.
     ComparisonJson(Option<ScenarioName>),
+    /// A line for the day and for each scenario at each of these steps, the best first.
+    Sweep(Each),
+    /// The same as lines of JSON.
+    SweepJson(Each),
 }
 
 /// Why there is no table.
 #[derive(Clone, Copy, PartialEq, Eq, Debug)]
 pub enum TableFault {
+    /// The record of this number, from 1, gives a scenario the name that a comparison has for the day itself.
+    NamedAsDay(usize),
     /// There is no scenario of this name.
     NoScenario(ScenarioName),
+    /// FROM or TO isn't a time of the airport's two days.
+    OtherDay,
     /// An update of the scenario of this name is refused: the first of them, by its number from 1, and the word that refuses it.
     Refused(ScenarioName, usize, RefusalWord),
     /// Want of memory.
@@ -49,6 +62,23 @@ impl From<AllocError> for TableFault {
     fn from(_error: AllocError) -> TableFault {
         TableFault::Memory
     }
+}
+
+// No scenario has the name that a comparison has for the day itself.
+#[tactic(auto, unfolding(crate::specs::Tables::named_as_day))]
+fn check_names(scenarios: &[Scenario]) -> Result<(), TableFault>
+    ensures free { OnOk result (named_as_day 1 scenarios.now ≡ None) }
+    ensures fault { IfErr result (IsNameFault scenarios.now) }
+{
+    let mut number: usize = 1;
+    for scenario in scenarios {
+        if scenario.name().bytes() == b"-".as_slice() {
+            return Err(TableFault::NamedAsDay(number));
+        }
+        let records = 1 + scenario.updates().len();
+        number = number.checked_add(records).ok_or(TableFault::Memory)?;
+    }
+    Ok(())
 }
 
 // The scenario of this name, if one is asked for.
@@ -93,22 +123,45 @@ fn asked_day<'a>(
     asked: Option<ScenarioName>,
 ) -> Result<Option<Overlay<'a>>, TableFault>
     ensures day { IfOk result (λ day. day ≡ asked_day base.now scenarios.now asked) }
+    ensures named { OnOk result (named_as_day 1 scenarios.now ≡ None) }
     ensures asked { OnOk result (IsAsked base.now scenarios.now asked) }
     ensures fault { IfErr result (IsFaultOf base.now scenarios.now asked) }
 {
-    match asked_of(scenarios, asked)? {
+    let scenario = asked_of(scenarios, asked)?;
+    check_names(scenarios)?;
+    match scenario {
         Some(scenario) => Ok(Some(day_by(alloc, base, scenario)?)),
         None => Ok(None),
     }
 }
 
+// The steps as minutes of the day.
+fn asked_steps(
+    alloc: Global,
+    base: &DayState,
+    scenarios: &[Scenario],
+    each: &Each,
+) -> Result<Listed<Minute>, TableFault>
+    ensures steps { IfOk result (λ minutes. steps_of base.now.airport.day each.now ≡ Some minutes) }
+    ensures named { OnOk result (named_as_day 1 scenarios.now ≡ None) }
+    ensures fault { IfErr result (IsStepFault base.now scenarios.now each.now) }
+{
+    let Some(minutes) = steps_of(alloc, *base.day(), each)? else {
+        return Err(TableFault::OtherDay);
+    };
+    check_names(scenarios)?;
+    Ok(minutes)
+}
+
 /// The table of a day and scenarios over it: as CSV each known flight's row by name, of the day and then of
 /// each scenario (`each_flight_has_one_row` of `cdm_row`), or the scenarios side by side, the best first: fewer blocked
 /// flights, then less delay, then the order of the file, in which the day itself is first; and behind them
-/// those that are refused (local profile), as text, as CSV or as JSON. Each scenario is answered over the base, by
-/// one of the workers in phase `Scenarios`, and every scenario is one piece.
+/// those that are refused (local profile), as text, as CSV or as JSON. With steps each scenario of which a time can be moved is tried at
+/// each of them, so that its earliest time stands there, and an earlier step comes before a later one. Each scenario is answered over the
+/// base, by one of the workers in phase `Scenarios`, and every scenario, or try, is one piece.
 ///
-/// `NoScenario` where none of them has the name that is asked for, `Refused` where an update of the one that has it is refused, and else
+/// Of a comparison `NoScenario` where none of them has the name that is asked for, `NamedAsDay` where one has the day's name, which is a
+/// hyphen, `Refused` where an update of the one that is asked for is refused, `OtherDay` where FROM or TO is a time of another day; and else
 /// only `Memory`.
 pub fn tabulate<R: Threads + Sync, G: Gate>(
     alloc: Global,
@@ -125,7 +178,10 @@ pub fn tabulate<R: Threads + Sync, G: Gate>(
     let _values = base.values();
     match table {
         Table::Csv => Ok(csv(alloc, base, scenarios, runner)?),
-        Table::ComparisonCsv => Ok(comparison_csv(alloc, base, scenarios, runner)?),
+        Table::ComparisonCsv => {
+            check_names(scenarios)?;
+            Ok(comparison_csv(alloc, base, scenarios, runner)?)
+        }
         Table::Comparison(asked) => {
             let day = asked_day(alloc, base, scenarios, asked)?;
             Ok(comparison(alloc, base, scenarios, day.as_ref(), runner)?)
@@ -133,6 +189,14 @@ pub fn tabulate<R: Threads + Sync, G: Gate>(
         Table::ComparisonJson(asked) => {
             let day = asked_day(alloc, base, scenarios, asked)?;
             Ok(comparison_json(alloc, base, scenarios, day.as_ref(), runner)?)
+        }
+        Table::Sweep(each) => {
+            let minutes = asked_steps(alloc, base, scenarios, &each)?;
+            Ok(sweep(alloc, base, scenarios, minutes.as_slice(), runner)?)
+        }
+        Table::SweepJson(each) => {
+            let minutes = asked_steps(alloc, base, scenarios, &each)?;
+            Ok(sweep_json(alloc, base, scenarios, minutes.as_slice(), runner)?)
         }
     }
 }

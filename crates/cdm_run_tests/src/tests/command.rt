@@ -360,6 +360,8 @@ fn other_wrong_words_are_told(rt: HostRuntime) {
         ("compare a f", "<SCENARIOS>"),
         ("compare a f s shut", "invalid value 'shut' for '[NAME]'"),
         ("compare a f s A B", "unexpected argument 'B'"),
+        ("compare a f s --each", "required for '--each <STEPS>'"),
+        ("compare a f s --each 5", "value '5' for '--each <STEPS>'"),
         (
             "why a f AB1 --format csv",
             "value 'csv' for '--format <FORMAT>'",

@@ -3,6 +3,7 @@ use Rattle.std.proofs.Common.{◌≡◌, ◌∙◌, ℕ, List, [], Some, Result,
 use Rattle.std.specs.Prelude.{flat_map}
 use Rattle.std.specs.List.{IsDistinct}
 use Rattle.cdm_flight.specs.Names.{same_name}
+use Rattle.cdm_flight.specs.declared.update.Update.{Update}
 use Rattle.cdm_flight.specs.declared.word.RefusalWord.{RefusalWord}
 use Rattle.cdm_report.specs.declared.counts.Counts.{Counts}
 use Rattle.cdm_plan.specs.Airport.{runway_names}
@@ -24,7 +25,8 @@ use Rattle.cdm_scenario.specs.Scenarios.{ScenarioRecord}
 use Rattle.cdm_scenario.specs.declared.outcome.Outcome.{Outcome}
 use Rattle.cdm_scenario.specs.declared.outcome.Outcome.TheVariants.{Planned, Refused}
 use Rattle.cdm_scenario.specs.inner.OneOutcome.{names_with_all, one_outcome}
-use Rattle.cdm_table.specs.Comparison.{AreTold, IsChanged, IsSummary, change_lines, summary_of}
+use Rattle.cdm_table.specs.Comparison.{AreTold, IsChanged, IsSummaryBy, IsTried, change_lines, summary_of}
+use Rattle.cdm_table.specs.Moved.{TryRecord, tried_updates}
 use Rattle.cdm_table.specs.ComparisonJson.{AreChangeLines, AreDayRows, change_line}
 use Rattle.cdm_table.specs.Plans.{IsLineBy, IsScenarioLine}
 use Rattle.cdm_table.specs.Tables.{IsLaidIf, day_by}
@@ -77,27 +79,32 @@ module _ (d : DayRecord) (runways : IsDistinct same_name (runway_names d.airport
           one_plan_line (with_updates d s.updates) plan runways (names_with_all d s.updates flights is.0) is.1 (of.Scenario s.name) [] x y p q
       by (Refused number word) is p q = p ∙ sym q
 
-  -- what changes by a scenario
-  one_changed : (s : ScenarioRecord) (x y : Result (Counts × List Standing) (ℕ × RefusalWord)) → IsChanged d s x → IsChanged d s y → x ≡ y
-  one_changed s (Ok (c, xs)) (Ok (k, ys)) a b =
-      let same : Planned a.0 c ≡ Planned b.0 k = one_outcome d s.updates runways flights (Planned a.0 c) (Planned b.0 k) a.1 b.1 in
+  -- what changes by updates
+  one_changed : (us : List Update) (x y : Result (Counts × List Standing) (ℕ × RefusalWord)) → IsChanged d us x → IsChanged d us y → x ≡ y
+  one_changed us (Ok (c, xs)) (Ok (k, ys)) a b =
+      let same : Planned a.0 c ≡ Planned b.0 k = one_outcome d us runways flights (Planned a.0 c) (Planned b.0 k) a.1 b.1 in
       let counts : c ≡ k = cc in
-      let own : Own (with_updates d s.updates) = (runways, names_with_all d s.updates flights a.1.0) in
-      let changed : xs ≡ ys = one_changed_to d (with_updates d s.updates) (runways, flights) own xs ys a.2 b.2 in
+      let own : Own (with_updates d us) = (runways, names_with_all d us flights a.1.0) in
+      let changed : xs ≡ ys = one_changed_to d (with_updates d us) (runways, flights) own xs ys a.2 b.2 in
       λ i. Ok (counts i, changed i)
-  one_changed s (Ok (c, xs)) (Err (n, w)) a b =
-      let same : Planned a.0 c ≡ Refused n w = one_outcome d s.updates runways flights (Planned a.0 c) (Refused n w) a.1 b in
+  one_changed us (Ok (c, xs)) (Err (n, w)) a b =
+      let same : Planned a.0 c ≡ Refused n w = one_outcome d us runways flights (Planned a.0 c) (Refused n w) a.1 b in
       cc
-  one_changed s (Err (n, w)) (Ok (c, xs)) a b =
-      let same : Planned b.0 c ≡ Refused n w = one_outcome d s.updates runways flights (Planned b.0 c) (Refused n w) b.1 a in
+  one_changed us (Err (n, w)) (Ok (c, xs)) a b =
+      let same : Planned b.0 c ≡ Refused n w = one_outcome d us runways flights (Planned b.0 c) (Refused n w) b.1 a in
       cc
-  one_changed s (Err (n, w)) (Err (m, v)) a b =
-      let same : Refused n w ≡ Refused m v = one_outcome d s.updates runways flights (Refused n w) (Refused m v) a b in
+  one_changed us (Err (n, w)) (Err (m, v)) a b =
+      let same : Refused n w ≡ Refused m v = one_outcome d us runways flights (Refused n w) (Refused m v) a b in
       cc
 
   -- in numbers
-  pub one_summary : (s : ScenarioRecord) (x y : Summary) → IsSummary d s x → IsSummary d s y → x ≡ y
-  one_summary s x y a b = a.2 ∙ (ap summary_of (one_changed s a.0 b.0 a.1 b.1) ∙ sym b.2)
+  one_summary_by : (by : Result (List Update) ℕ) (x y : Summary) → IsSummaryBy d by x → IsSummaryBy d by y → x ≡ y
+  one_summary_by (Ok us) x y a b = a.2 ∙ (ap summary_of (one_changed us a.0 b.0 a.1 b.1) ∙ sym b.2)
+  one_summary_by (Err number) x y a b = a ∙ sym b
+
+  -- of a try
+  pub one_tried : (t : TryRecord) (x y : Summary) → IsTried d t x → IsTried d t y → x ≡ y
+  one_tried t x y a b = one_summary_by (tried_updates t) x y a b
 
   -- the day with all updates of a scenario, none of which is refused, has flights of its own names
   pub own_next : (s : ScenarioRecord) → IsLaidIf d (Some s) → Own (day_by d s)

@@ -31,6 +31,18 @@ returns-in_ok-text-in-Table-clause-made g c =
     (λ d words. IsTable c.in-Table.table d day.scenarios.items text) c.in-Table.is (λ h. h)
     is.state is.refused c.in_ok-text-in-Table.ensures.made (λ i. (c.made_with-in-Table.ensures.text i).items) c.made_with-in-Table.ensures.counted
 
+pub returns-in_err-text-in-Table-clause-fault : goal.returns-in_err-text-in-Table-clause-fault
+returns-in_err-text-in-Table-clause-fault g c =
+    let bytes = c.args.inputs in
+    let day = c.in_ok-day-in-Table.day in
+    let is = c.in_ok-day-in-Table.ensures in
+    let e = c.in_err-text-in-Table.field-0.0 in
+    let asked = Table c.in-Table.table in
+    let untold = subst (λ (d : DayRecord). IsUntold asked d day.scenarios.items e) is.state c.in_err-text-in-Table.ensures.fault in
+    let fault = unmade bytes.airport.items bytes.second.items bytes.third.items day.state.airport day.scenarios.items is.airport is.scenarios asked e untold in
+    let p = err_from_is_err_and c.from_residual-in_err-text-in-Table.result c.from_residual-in_err-text-in-Table.ensures.1 in
+    rw (p.1, p.2, c.in-Table.is) fault
+
 pub returns-in_ok-text-in-Picture-clause-made : goal.returns-in_ok-text-in-Picture-clause-made
 returns-in_ok-text-in-Picture-clause-made g c =
     let bytes = c.args.inputs in

@@ -15,7 +15,7 @@ ATC,RATE,|ATC,CLOSE,|ATC,OPEN,|ATC,TAXI,|ATC,CLOCK,|NM,TOL,|P  planned|O  off-bl
 PLACED|DELAY|MAX|LATE|BLOCKED|FIELDS |ROLE |KIND |TEXT |RANGE |AUTHORITY |UNKNOWN |EXISTS |\
 ENDED |OFFBLOCK |ORDER |NOTREADY |FULL |TOBT     the|RUNWAY   it|EXOT     its|HORIZON  it|\
 CTOT     it|CLOSURE  the|RATE     the|0  the complete|1  a file|2  usage error|3  a file|4  check|- reads|\
-FEED1 and FEED2|DESK     the|MOVED    how|scenario,flight,status,|WAIT     for|RATE     the cell|RUNWAY   each|\
+FEED1 and FEED2|DESK     the|MOVED    how|--each   tries|scenario,flight,status,|WAIT     for|RATE     the cell|RUNWAY   each|\
 picture draws|two runs may print different texts|\
 \nPLAN\n|\nNEXT\n|\nWARNINGS\n|\nCAUSES\n|\nCOMPARE\n|\nWHY\n|\nOPTIONS\n|\nLOAD\n|\nTRACE\n|\nPICTURE\n|\nLIVE\n|\nSERVE\n|\nCARRY\n|\nCHECK\n|\
 \nKINDS\n|\nJSON\n|\nSTATUS\n|\nTHE BOARD\n|OVERDUE  off-block|--since  lists|--by operator|take --format csv|\

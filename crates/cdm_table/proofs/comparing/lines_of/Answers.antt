@@ -9,12 +9,12 @@ loop-place-init c = search rules
 
 pub loop-place-preserved : goal.loop-place-preserved
 loop-place-preserved c =
-    let ss = c.args.scenarios.now in
+    let ss = c.args.tries.now in
     let xs = c.args.summaries.now in
     let k = c.loop-place.place in
-    let s = c.index-scenarios-place.result in
+    let s = c.index-tries-place.result in
     let x = c.summary_line-line.result.summary in
-    let at = slice_get_read ss (length ss) k s refl c.loop-place-test.true c.index-scenarios-place.is in
+    let at = slice_get_read ss (length ss) k s refl c.loop-place-test.true c.index-tries-place.is in
     let own = ap (λ (l : Line). l.summary) c.summary_line-line.ensures in
     let also = slice_get-get_or xs k _ (omega (arith, c.requires, c.loop-place-test.true)) ∙ ap Some (sym own) in
     let next = one_more_line c.args.counts ss xs k s x c.requires c.loop-place-test.true at also in
