@@ -91,7 +91,7 @@ fn ask_line<R: Threads + Sync>(
 ) -> Result<Vec<u8>, AllocError>
     ensures { IfOk result (λ text. IsReplyTo form state.now number (Request.Ask asked) text.items) }
 {
-    match word_asked(state, asked) {
+    match word_asked(state, &asked) {
         None => asked_text(lent, form.format, state, number, asked),
         Some(word) if form.sentences => {
             explained(lent.alloc, form.format, state, number, read, word)

@@ -27,13 +27,19 @@ fn is_unknown(state: &DayState, question: &Question) -> bool
 }
 
 /// The word that refuses a question, if one does.
-pub(crate) fn word_asked(state: &DayState, asked: Asked) -> Option<RefusalWord>
-    ensures { result ≡ word_asked state.now asked }
+pub(crate) fn word_asked(state: &DayState, asked: &Asked) -> Option<RefusalWord>
+    ensures { result ≡ word_asked state.now asked.now }
 {
     match asked {
-        Asked::View(question) if is_unknown(state, &question) => Some(RefusalWord::Unknown),
-        Asked::Plan | Asked::View(_) => None,
-        Asked::Options(flight) => helpless_by(state, flight),
+        Asked::Plan => None,
+        Asked::View(question) => {
+            if is_unknown(state, question) {
+                Some(RefusalWord::Unknown)
+            } else {
+                None
+            }
+        }
+        Asked::Options(flight) => helpless_by(state, *flight),
     }
 }
 
