@@ -3,6 +3,7 @@ import pytest
 from browser import fill, size, until
 from selenium_or_none import Keys
 from test_page_eye import BROKEN, CLIPPED
+from test_page_look import colour
 from test_page_rules import RULES, TARGETS
 
 ASKED = "return performance.getEntriesByType('resource').filter((one) => one.name.endsWith('/v1/compare/THIS')).length"
@@ -426,6 +427,7 @@ def test_the_form_of_a_closure(page):
     shown.keys(Keys.ENTER)
     shown.says(".band .reply", "Accepted.")
     shown.until("return document.querySelector('.band form .sends:not(.back)').disabled")
+    assert shown.js("return getComputedStyle(document.querySelector('.band form .sends:not(.back)')).backgroundColor") != colour(shown, "link")
     shown.says(form, "Done")
     shown.click(".band .back")
     shown.says(".band .reply", "Taken back.")
