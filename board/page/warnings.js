@@ -31,16 +31,11 @@ const LACKS = {
   },
 };
 
-/** What a blocked flight lacks, in words. */
-const LACKED = { TOBT: 'it has no TOBT', RUNWAY: 'it has no runway', EXOT: 'its stand has no taxi time to its runway' };
-
-/** Which minutes a rule leaves to a blocked flight that lacks nothing, in words: none. */
-const TAKEN = { HORIZON: 'it would take off after the end of the next day', CTOT: 'its CTOT window ends before it can take off',
+/** What a blocking rule means: what the flight lacks, or why each minute is none for it. */
+const MEANS = { TOBT: 'it has no TOBT', RUNWAY: 'it has no runway', EXOT: 'its stand has no taxi time to its runway',
+  HORIZON: 'it would take off after the end of the next day', CTOT: 'its CTOT window ends before it can take off',
   CLOSURE: 'its runway is closed in every minute that it could take', SPACING: 'every minute that it could take is too near to another take-off',
   RATE: 'every minute that it could take is in a full cell' };
-
-/** Why a flight is blocked: its rule, and what that means. */
-const blockedBy = (rule) => (LACKED[rule] ?? TAKEN[rule] ? `${rule}: ${LACKED[rule] ?? TAKEN[rule]}.` : `${rule}.`);
 
 /** What frees a flight that has no minute in its CTOT window. */
 const FREES = {
@@ -66,7 +61,7 @@ function freeing(one, at, may) {
  */
 const KINDS = {
   BLOCKED: { facts: (one) => one.rule ?? '', answers: (one) => CAN_FREE[one.rule] ?? ALL_THAT_FREE,
-    means: (one) => `It has no start-up time, by ${blockedBy(one.rule)}`,
+    means: ({ rule }) => `It has no start-up time, by ${rule}${MEANS[rule] ? `: ${MEANS[rule]}` : ''}.`,
     act: freeing },
   OVERDUE: { facts: (one, at) => `TTOT ${at(one.ttot)}`, answers: ['AIR'], time: (one) => one.ttot,
     means: (one, at) => `It left its stand, its TTOT ${at(one.ttot)} is more than 5 minutes ago, and no AIR has come.`,
