@@ -29,7 +29,7 @@ def test_what_moved_out_of_the_next_minutes(page):
     shown.says("#blocked", "DLH1 was 06:00")
     shown.click("#seen")
     shown.until("return !document.querySelector('#since').innerText.includes('out')")
-    assert shown.text("#since").startswith("0 of")
+    assert shown.text("#since").startswith("Next 30 min: none moved since ")
     # A flight that just changed is highlighted for ten seconds all the same.
     shown.until("return !document.querySelector('#blocked').innerText.includes('was')", seconds=10 + WAIT)
 
