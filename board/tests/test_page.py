@@ -75,7 +75,7 @@ def test_a_record_that_is_sent_elsewhere(page):
     assert shown.row("next", "DLH2")[0] == "06:00 in 10" and "was 06:05: TOBT DLH1 06:20, AO " in shown.row("next", "DLH2")[9]
     shown.says("header dl", "41")  # the delays are 28 and 13 now
     shown.click("#seen")
-    assert "was" not in shown.row("next", "DLH1")[9] and shown.text("#since").startswith("0 of")
+    assert "was" not in shown.row("next", "DLH1")[9] and shown.text("#since").startswith("Next 30 min: none moved since ")
 
 
 def test_the_mark_stays_ten_seconds(page):
