@@ -85,7 +85,7 @@ export class Act {
   }
 
   itemOf({ flight, isHelpable: isAsked, kinds, since, words, free, buttons }) {
-    return el('li', {}, el('b', { class: ACT.includes(kinds[0]) && 'act' }, kinds.join(' ')), ' ', flight && el('a', { href: `#${flight}`, 'data-of': flight }, flight), ' ', el('small', {}, since),
+    return el('li', {}, el('b', { class: ACT.includes(kinds[0]) && 'act' }, kinds.join(', ')), ' ', flight && el('a', { href: `#${flight}`, 'data-of': flight }, flight), ' ', el('small', {}, since),
       ...words.map((text) => el('p', {}, text)), free && el('p', { class: 'free' }, free),
       isAsked && el('p', {}, el('a', { href: `#${flight}`, 'data-helps': flight, 'data-of': `${flight} helps` }, 'What could help?', el('span', { class: 'vh' }, ` ${flight}`))),
       ...buttons.map(({ kind, values }) => {

@@ -115,7 +115,7 @@ export class Filter {
     if (text === this.told) return;
     this.told = text;
     $('#f-warned').replaceChildren(`${list.length === 1 ? '1 warning' : `${list.length} warnings`}${list.length ? ':' : ''}`,
-      ...list.slice(0, MOST_WARNED).flatMap((one) => [` ${one.kind} `, el('a', { href: `#${one.flight}` }, one.flight)]), list.length > MOST_WARNED ? ` +${list.length - MOST_WARNED}` : '');
+      ...list.slice(0, MOST_WARNED).flatMap((one, at) => [`${at ? ', ' : ' '}${one.kind} `, el('a', { href: `#${one.flight}` }, one.flight)]), list.length > MOST_WARNED ? ` +${list.length - MOST_WARNED}` : '');
   }
 
   /** Of the delay by operator, the operators that are shown with their sum; all of it where none is named. */

@@ -84,8 +84,9 @@ class Card extends Sender {
     say(this.tsat, row.tsat ? hm(row.tsat, date) : statusWord(row.status));
     say(this.ahead, mark || (row.status !== 'PLANNED' ? [row.tsat && statusWord(row.status), row.rule].filter(Boolean).join(' ') : minutes > 0 ? `in ${minutes}` : 'now'));
     this.item.classList.toggle('moved', mark !== null);
-    const words = [row.delay ? `${isLate(row) ? 'late ' : 'delay '}${row.delay}` : '', row.ctot && `CTOT ${hm(row.ctot, date)}`, since].filter(Boolean).join(' · ');
-    this.why.replaceChildren(...warned.flatMap((kind) => [el('b', { class: `tag ${kind}` }, kind), ' ']), ...(cause ? [el('b', { class: `cause k${LETTERS[cause] ?? ''}` }, REASONS[cause] ?? cause), ' '] : []), words);
+    const words = [row.delay && !isLate(row) ? `delay ${row.delay}` : '', row.ctot && `CTOT ${hm(row.ctot, date)}`, since].filter(Boolean).join(' · ');
+    this.why.replaceChildren(...warned.flatMap((kind) => [el('b', { class: `tag ${kind}` }, kind), ' ']), ...(cause ? [el('b', { class: `cause k${LETTERS[cause] ?? ''}` }, REASONS[cause] ?? cause), ' '] : []),
+      ...(isLate(row) ? [el('b', { class: 'late' }, 'late'), ' ', el('b', { class: 'held' }, row.delay), words && ' · '] : []), words);
     this.root.hidden = !takes;
     if (!this.isTouched && document.activeElement !== this.field) this.field.value = row.tobt ? hm(row.tobt, date) : '';
     this.preview();

@@ -172,7 +172,7 @@ export class Next {
     if (said === this.said) return;
     this.said = said;
     const names = out.slice(0, MOST_OUT).flatMap((name) => [' ', el('a', { href: `#${name}` }, name)]);
-    $('#since').replaceChildren(`${count} of the next ${AHEAD} min moved since ${at}`, ...(out.length ? [`, ${out.length} moved out:`, ...names] : []),
+    $('#since').replaceChildren(`Next ${AHEAD} min: ${count || 'none'} moved since ${at}`, ...(out.length ? [`, ${out.length} moved out:`, ...names] : []),
       out.length > MOST_OUT ? ` +${out.length - MOST_OUT}` : '');
   }
 }
@@ -187,5 +187,5 @@ function inFront(rows, { ttot, runway }) {
   return last?.flight ?? '';
 }
 
-const tagOf = (tags, name) => (tags.get(name) ?? []).join(' ');
+const tagOf = (tags, name) => (tags.get(name) ?? []).join(', ');
 const keyOf = (row) => `${row.tsat} ${row.flight}`;

@@ -18,18 +18,30 @@ const LEFT = ['OVERDUE', 'MISSED', 'SHUT'];
 /** The order of what there is to do: what is to be acted on now, then flights that have left their stand, then the rest. */
 export const urgency = (kind) => (ACT.includes(kind) ? 0 : LEFT.includes(kind) ? 1 : 2);
 
+/** Kinds of records as words: `TAXI, RWY or STAND`. */
+const anyOf = (kinds) => kinds.join(', ').replace(/, (?=[^,]*$)/, ' or ');
+
 /** What a blocked flight lacks, by its rule: for who may send it, and for who has to ask. */
 const LACKS = {
   TOBT: (may) => (may('TOBT') ? 'Send its TOBT.' : 'Ask its operator for its TOBT.'),
   RUNWAY: (may) => (may('RWY') ? 'Send its runway (RWY).' : 'Ask the tower for its runway.'),
-  EXOT: () => 'Its stand has no taxi time to this runway: send TAXI, RWY or STAND.',
+  EXOT: (may) => {
+    const kinds = ['TAXI', 'RWY', 'STAND'].filter(may);
+    return kinds.length ? `Send ${anyOf(kinds)}.` : 'Ask the tower for the taxi time (TAXI) or another runway, or the airport for another stand.';
+  },
 };
+
+/** What a blocking rule means: what the flight lacks, or why each minute is none for it. */
+const MEANS = { TOBT: 'it has no TOBT', RUNWAY: 'it has no runway', EXOT: 'its stand has no taxi time to its runway',
+  HORIZON: 'it would take off after the end of the next day', CTOT: 'its CTOT window ends before it can take off',
+  CLOSURE: 'its runway is closed in every minute that it could take', SPACING: 'every minute that it could take is too near to another take-off',
+  RATE: 'every minute that it could take is in a full cell' };
 
 /** What frees a flight that has no minute in its CTOT window. */
 const FREES = {
   CTOT: (may) => (may('TOBT') ? 'Send an earlier TOBT.' : 'Ask its operator for an earlier TOBT.'),
   CLOSURE: (may) => (may('OPEN') ? 'Open the runway (OPEN), or send another one (RWY).' : 'Ask the tower to open the runway, or for another one.'),
-  RATE: () => 'PRIO puts it ahead of those that have its minutes.',
+  RATE: (may) => `${may('PRIO') ? 'PRIO puts it' : 'Ask the tower to put it (PRIO)'} ahead of those that have its minutes.`,
 };
 
 /** The kinds of records that can free a blocked flight, by its rule. Of one whose CTOT window ends before it is ready no priority does, and no runway by itself. */
@@ -49,17 +61,17 @@ function freeing(one, at, may) {
  */
 const KINDS = {
   BLOCKED: { facts: (one) => one.rule ?? '', answers: (one) => CAN_FREE[one.rule] ?? ALL_THAT_FREE,
-    means: (one) => (LACKS[one.rule] ? `It has no start-up time, as it lacks what ${one.rule} asks for.` : `It has no start-up time: ${one.rule} leaves it no minute.`),
+    means: ({ rule }) => `It has no start-up time, by ${rule}${MEANS[rule] ? `: ${MEANS[rule]}` : ''}.`,
     act: freeing },
   OVERDUE: { facts: (one, at) => `TTOT ${at(one.ttot)}`, answers: ['AIR'], time: (one) => one.ttot,
     means: (one, at) => `It left its stand, its TTOT ${at(one.ttot)} is more than 5 minutes ago, and no AIR has come.`,
-    act: 'If it has taken off, send AIR with its take-off time; if it hasn’t, ask where it is.' },
+    act: (one, at, may) => (may('AIR') ? 'If it has taken off, send AIR with its take-off time; if it hasn’t, ask where it is.' : 'Ask the tower where it is. Once it has taken off, the tower sends AIR.') },
   MISSED: { facts: (one, at) => `CTOT ${at(one.ctot)}`, answers: ['AIR'],
     means: (one, at) => `It left its stand, and takes off after the window of its CTOT ${at(one.ctot)}.`,
-    act: 'Tell the Network Manager. If it took off within its window, send AIR with that time; no CTOT is taken any more.' },
+    act: (one, at, may) => `Tell the Network Manager. If it took off within its window, ${may('AIR') ? 'send' : 'the tower sends'} AIR with that time; no CTOT is taken any more.` },
   EDGE: { facts: (one, at) => `CTOT ${at(one.ctot)} TTOT ${at(one.ttot)}`, answers: ['PRIO', 'CTOT'],
     means: (one, at) => `Its TTOT ${at(one.ttot)} is among the last 3 minutes of the window of its CTOT ${at(one.ctot)}.`,
-    act: 'See that it isn’t late. PRIO puts it further ahead; a later CTOT gives it room.' },
+    act: (one, at, may) => `See that it isn’t late. ${may('PRIO') ? 'PRIO puts' : 'The tower can put'} it further ahead${may('PRIO') ? '' : ' (PRIO)'}; a later CTOT${may('CTOT') ? '' : ' from the Network Manager'} gives it room.` },
   PAST: { facts: (one, at) => `TSAT ${at(one.time)}`, answers: ['OFF', 'TOBT'],
     means: () => 'It could have started up before now, and hasn’t left its stand: its TSAT is moved on with each CLOCK.',
     act: (one, at, may) => `${may('OFF') ? 'If it has left, send OFF with its off-block time' : 'Ask whether it has left'}; if it isn’t ready, ${may('TOBT') ? 'send' : 'ask its operator for'} the TOBT at which it will be.` },
@@ -68,10 +80,10 @@ const KINDS = {
     act: 'See whether CLOCK has stopped. A wrong OFF or AIR can’t be taken back.' },
   FULL: { facts: (one, at) => `${one.runway} ${at(one.time)} ${one.placed}/${one.cap}`, answers: [],
     means: (one, at) => `In the cell of runway ${one.runway} from ${at(one.time)} on ${one.placed} take off, and its capacity is ${one.cap}.`,
-    act: 'Those have left already, or the capacity was lowered behind them. Nothing is to be done, or send RATE with the capacity that holds.' },
+    act: (one, at, may) => `Those have left already, or the capacity was lowered behind them. Nothing is to be done, or ${may('RATE') ? 'send' : 'the tower sends'} RATE with the capacity that holds.` },
   SHUT: { facts: (one, at) => `${one.runway} TTOT ${at(one.ttot)}`, answers: ['AIR'],
     means: (one, at) => `It left its stand, and runway ${one.runway} is closed at its TTOT ${at(one.ttot)}, or now if that is past.`,
-    act: 'Hold it, or open the runway (OPEN). If it has taken off, send AIR with its take-off time.' },
+    act: (one, at, may) => (may('OPEN') ? 'Hold it, or open the runway (OPEN). If it has taken off, send AIR with its take-off time.' : 'Ask the tower to hold it, or to open the runway (OPEN).') },
 };
 /** A kind that this page doesn't know is drawn with what it says of itself. */
 const OTHER = { facts: ({ kind, flight, ...more }, at) => Object.values(more).filter((value) => value != null).map((value) => (isTime(value) ? at(value) : value)).join(' '),
@@ -183,7 +195,7 @@ export class Warnings {
     const all = kind === 'BLOCKED' ? this.blocked() : 0;
     if (all <= mine.length && (mine.length === 1 || kind !== 'BLOCKED' && mine.length <= FEW)) {
       return mine.map(([one, ...more]) => el('li', { class: name }, el('b', {}, kind), ' ', fresh([one, ...more]), ' ', link(one), said(one),
-        ...more.flatMap((other) => [' ', el('b', {}, other.kind), said(other)])));
+        ...more.flatMap((other) => ['; ', el('b', {}, other.kind), said(other)])));
     }
     const rest = this.whole.has(kind) ? 0 : mine.length - MOST;
     const named = ([one, ...more]) => (one.flight ? [link(one), ' ', more.length > 0 && el('small', {}, `${more.map((other) => other.kind).join(', ')} `)] : [`${said(one).trim()}, `]);

@@ -22,6 +22,9 @@ const MOST_BESIDE = 4; // scenarios whose loads and causes are shown at once
 const GAP = 8; // px
 const COLUMNS = ['placed', 'delay', 'max', 'late', 'blocked', 'moved'];
 
+/** What the program or the server says, as a sentence of the page. */
+const asSentence = (text) => text.replace(/^cdmseq: /, '').replace(/^./, (first) => first.toUpperCase());
+
 /** The form that desks have; what it makes goes into the last scenario, and its onSend(line) says into which. */
 class ScenarioForm extends RecordForm {
   constructor(kinds, more) {
@@ -347,7 +350,7 @@ export class WhatIf {
     }
     if (number !== this.asked) return;
     const [first] = found;
-    this.fault(first ? `${first.line ? `Line ${first.line}: ` : ''}${first.sentence}.` : `${problem.message}.`);
+    this.fault(asSentence(first ? `${first.line ? `Line ${first.line}: ` : ''}${first.sentence}.` : `${problem.message}.`));
     if (first?.line) this.select(first.line);
   }
 
@@ -366,7 +369,7 @@ export class WhatIf {
     for (const { line, sentence } of found) {
       const name = named.slice(0, line).findLast(Boolean);
       const cell = $(`#wi-table td[data-scenario="${CSS.escape(name ?? '')}"]`);
-      if (cell) say(cell, `refused at line ${line}: ${sentence}`);
+      if (cell) say(cell, `Refused at line ${line}: ${sentence}.`);
     }
   }
 
@@ -381,7 +384,7 @@ export class WhatIf {
     const rows = lines.map((one) => {
       const label = one.scenario ?? 'day';
       const title = one.scenario === null || lines.length <= 2 ? label : this.chooser(label, one.scenario === shown);
-      if ('word' in one) return el('tr', {}, el('th', { scope: 'row' }, title), el('td', { colspan: 6, 'data-scenario': one.scenario }, `refused: update ${one.update}, ${one.word}`));
+      if ('word' in one) return el('tr', {}, el('th', { scope: 'row' }, title), el('td', { colspan: 6, 'data-scenario': one.scenario }, `Refused: update ${one.update}, ${one.word}.`));
       return el('tr', { class: one.scenario === shown && 'chosen' }, el('th', { scope: 'row' }, title),
         ...COLUMNS.map((name) => el('td', { class: 'n' }, String(one[name]))));
     });

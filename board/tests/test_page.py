@@ -48,8 +48,8 @@ def test_the_warnings(page):
                                 f"OFF,A7,{at('06:52')}", f"CLOSE,27L,{at('07:00')},{at('07:06')}", f"CLOCK,{at('06:40')}"]})
     shown.open()
     assert shown.text("#h-w") == "Warnings 10 7 flights" and shown.texts("#warnings li") == [
-        "OVERDUE A2 TTOT 06:20 MISSED CTOT 06:20", "EDGE A5 CTOT 07:06 TTOT 07:15", "PAST A1 TSAT 06:40", "AHEAD A3 07:30", "AHEAD A6 06:51",
-        "AHEAD A7 06:52", "FULL 27L 07:00 3/2", "SHUT A4 27L TTOT 07:05 AHEAD 06:50", "BLOCKED: none"]
+        "OVERDUE A2 TTOT 06:20; MISSED CTOT 06:20", "EDGE A5 CTOT 07:06 TTOT 07:15", "PAST A1 TSAT 06:40", "AHEAD A3 07:30", "AHEAD A6 06:51",
+        "AHEAD A7 06:52", "FULL 27L 07:00 3/2", "SHUT A4 27L TTOT 07:05; AHEAD 06:50", "BLOCKED: none"]
     # A new one says so for a minute, and is said in the live region at once.
     shown.server.post(f"OFF,A1,{at('06:19')}", Cdm_Role="ATC")
     shown.says("#warnings", "OVERDUE new A1 TTOT 06:34", seconds=10 + WAIT)
@@ -58,7 +58,7 @@ def test_the_warnings(page):
 
 def test_a_record_that_is_sent_elsewhere(page):
     shown = page().open()
-    assert "0 of the next 30 min moved since" in shown.text("#next .hd")
+    assert "Next 30 min: none moved since" in shown.text("#next .hd")
     shown.server.post("TOBT,DLH1,2025-03-10T06:20Z", Cdm_Role="AO")
     # DLH2 takes DLH1's place; DLH1 takes off at 06:35. Both say what they were, and why.
     shown.until("return document.querySelector('#next tr[data-flight=DLH1]').innerText.includes('06:20')")
@@ -68,14 +68,14 @@ def test_a_record_that_is_sent_elsewhere(page):
     assert shown.js("return document.querySelector('#all tr[data-flight=DLH1]').innerText").count("▼ was 06:00") == 1
     shown.until("return [...document.querySelectorAll('#next tbody tr')].map((r) => r.dataset.flight).join() === 'BAW3,DLH2,DLH1,RYR6'")
     # Which of the next 30 minutes moved since one looked, and why, without a click; also when the mark is gone.
-    assert shown.text("#since").startswith("1 of the next 30 min moved since ")
+    assert shown.text("#since").startswith("Next 30 min: 1 moved since ")
     shown.until("return document.querySelectorAll('#next tr.moved').length === 0", seconds=10 + WAIT)
     assert shown.row("next", "DLH1")[0] == "06:20 in 30" and "was 06:00: TOBT 06:20, AO " in shown.row("next", "DLH1")[9]
     assert "…" not in shown.text("#next")
     assert shown.row("next", "DLH2")[0] == "06:00 in 10" and "was 06:05: TOBT DLH1 06:20, AO " in shown.row("next", "DLH2")[9]
     shown.says("header dl", "41")  # the delays are 28 and 13 now
     shown.click("#seen")
-    assert "was" not in shown.row("next", "DLH1")[9] and shown.text("#since").startswith("0 of")
+    assert "was" not in shown.row("next", "DLH1")[9] and shown.text("#since").startswith("Next 30 min: none moved since ")
 
 
 def test_the_mark_stays_ten_seconds(page):
@@ -247,7 +247,7 @@ def test_what_if(page):
     # A scenario that is refused, and a file that is wrong.
     shown.js("document.querySelector('#scenario').value = 'SCENARIO,BAD\\nTOBT,XY9,2025-03-10T06:30Z'")
     shown.click("#p-what-if form button")
-    shown.says("#wi-table", "BAD refused at line 2: XY9 has no FLT that was accepted before this record")
+    shown.says("#wi-table", "BAD Refused at line 2: XY9 has no FLT that was accepted before this record")
     shown.allowed.append("422 (Unprocessable Entity)")
     shown.js("document.querySelector('#scenario').value = 'SCENARIO,BAD\\n<b>FOO</b>,1'")
     shown.click("#p-what-if form button")

@@ -3,6 +3,7 @@ import pytest
 from browser import fill, size, until
 from selenium_or_none import Keys
 from test_page_eye import BROKEN, CLIPPED
+from test_page_look import colour
 from test_page_rules import RULES, TARGETS
 
 ASKED = "return performance.getEntriesByType('resource').filter((one) => one.name.endsWith('/v1/compare/THIS')).length"
@@ -236,7 +237,7 @@ def test_a_row_of_what_to_do_for_each_flight(page):
     shown.until("return document.querySelectorAll('#act > li').length === 2 && document.querySelectorAll('#act button').length === 1")
     shown.says("#act", "The first free take-off is 07:15, with the start-up 07:00: ask the Network Manager for a CTOT of about that time.")
     blocked, overdue = shown.texts("#act > li")
-    assert overdue.startswith("OVERDUE MISSED A2 since before this page was opened; moved last by OFF 05:25, ATC ")
+    assert overdue.startswith("OVERDUE, MISSED A2 since before this page was opened; moved last by OFF 05:25, ATC ")
     assert "its TTOT 05:40 is more than 5 minutes ago, and no AIR has come. If it has taken off, send AIR" in overdue and "Tell the Network Manager." in overdue
     assert blocked.startswith("BLOCKED EZY7 since before this page was opened; moved last by CTOT 06:30, NM ") and "Ask its operator for an earlier TOBT." in blocked
     assert shown.texts("#act button") == ["Put AIR 05:40 into the form of A2"]
@@ -426,6 +427,7 @@ def test_the_form_of_a_closure(page):
     shown.keys(Keys.ENTER)
     shown.says(".band .reply", "Accepted.")
     shown.until("return document.querySelector('.band form .sends:not(.back)').disabled")
+    assert shown.js("return getComputedStyle(document.querySelector('.band form .sends:not(.back)')).backgroundColor") != colour(shown, "link")
     shown.says(form, "Done")
     shown.click(".band .back")
     shown.says(".band .reply", "Taken back.")

@@ -292,7 +292,7 @@ def test_a_warning_of_a_flight_that_has_left(page):
     shown.click('#warnings .OVERDUE a')
     shown.says("#f-warnings", "MISSED")
     words = shown.texts("#f-warnings li")
-    assert words[0].startswith("OVERDUE It left its stand, its TTOT 06:20 is more than 5 minutes ago, and no AIR has come. If it has taken off, send AIR")
+    assert words[0].startswith("OVERDUE It left its stand, its TTOT 06:20 is more than 5 minutes ago, and no AIR has come. Ask the tower where it is. Once it has taken off, the tower sends AIR.")
     assert words[1].startswith("MISSED It left its stand, and takes off after the window of its CTOT 06:20.")
     shown.says("#why-note", "It left its stand, and keeps its times. Of its records AIR alone is still taken.")
     shown.choose("#role", "ATC")
@@ -370,12 +370,17 @@ def test_nothing_is_said_before_it_is_known(page):
         assert " 0 " not in f" {text} " and shown.texts("header dd") == ["–"] * 5 and shown.text("#h-b").startswith("Blocked …")
         assert shown.js("return getComputedStyle(document.querySelector('#blocked')).borderLeftColor") != shown.js(
             "const e = document.createElement('i'); e.style.color = 'var(--alarm)'; document.body.append(e); return getComputedStyle(e).color")
+        heads = "return [...document.querySelectorAll('thead')].filter((one) => one.checkVisibility({checkVisibilityCSS: true}) && !one.parentNode.tBodies[0].rows.length).length"
+        assert shown.js(heads) == 0
+        top = "return document.querySelector(arguments[0]).getBoundingClientRect().top"
+        assert shown.js(top, "#left > :first-child") == shown.js(top, "#warnings")
         places = "const is = getComputedStyle(document.querySelector('#next .chunk'), '::after'); return [is.content !== 'none', parseFloat(is.height) >= 320]"
         assert shown.js(places) == [True, True]
     finally:
         driver.execute_cdp_cmd("Page.removeScriptToEvaluateOnNewDocument", {"identifier": script["identifier"]})
     shown.open()
     assert shown.js(places)[0] is False
+    assert shown.js("return document.querySelector('#next thead').checkVisibility({checkVisibilityCSS: true})")
 
 
 def test_a_what_if_takes_hours_and_minutes(page):
@@ -418,8 +423,19 @@ def test_an_error_of_a_what_if_is_said_at_its_line(page):
     assert shown.js("const box = document.querySelector('#scenario'); return box.value.slice(box.selectionStart, box.selectionEnd)") == "CLOSE,09,06:20"
     shown.js("document.querySelector('#scenario').value = 'SCENARIO,A\\nTOBT,DLH1,06:20\\nSCENARIO,B\\nPRIO,DLH2,0\\nPRIO,XY9,0'")
     shown.click("#p-what-if form button")
-    shown.says("#wi-table", "B refused at line 5: XY9 has no FLT that was accepted before this record")
+    shown.says("#wi-table", "B Refused at line 5: XY9 has no FLT that was accepted before this record")
     assert shown.texts("#wi-table tr")[-1].startswith("difference") and not shown.find("#wi-fault").is_displayed()
+
+
+def test_a_fault_of_a_what_if_is_a_sentence(page):
+    """Also where it isn't about what is written."""
+    shown = page().open("#what-if")
+    shown.says("#scenario-h", "CLOSE,09,06:20,06:40")
+    shown.js("""const real = fetch; window.fetch = async (...words) => (!String(words[0]).startsWith('/v1/compare') ? real(...words)
+        : new Response(JSON.stringify({ status: 504, detail: 'the program took longer than 10 seconds' }), { status: 504, headers: { 'Content-Type': 'application/problem+json' } }));""")
+    shown.js("document.querySelector('#scenario').value = 'SCENARIO,A\\nPRIO,DLH2,0'")
+    shown.click("#p-what-if form button")
+    shown.says("#wi-fault", "The program took longer than 10 seconds.")
 
 
 def test_a_runway_that_closes_again(page):
@@ -624,14 +640,25 @@ def test_a_blocked_flight_is_told_what_frees_it(page):
                         "AO": [f"TOBT,KLM5,{at('06:00')}"], "NM": [f"CTOT,KLM5,{at('06:09')}"]})
     shown.open()
     ask, open_it, tower = "Ask its operator for an earlier TOBT.", "Open the runway (OPEN), or send another one (RWY).", "Ask the tower to open the runway, or for another one."
-    said = {"read only": (ask, tower), "ATC": (ask, open_it), "AO": ("Send an earlier TOBT.", tower)}
-    for role, (of_ctot, of_closure) in said.items():
+    puts, may_put = "Ask the tower to put it (PRIO)", "PRIO puts it"
+    said = {"read only": (ask, tower, puts), "ATC": (ask, open_it, may_put), "AO": ("Send an earlier TOBT.", tower, puts)}
+    for role, (of_ctot, of_closure, of_rate) in said.items():
         shown.choose("#role", role)
         for name, words in (("EZY7", f"{of_ctot} Or ask the Network Manager for a later CTOT than 06:30."),
                             ("AFR4", f"{of_closure} Or ask the Network Manager for a later CTOT than 07:10."),
-                            ("KLM5", "PRIO puts it ahead of those that have its minutes. Or ask the Network Manager for a later CTOT than 06:09.")):
+                            ("KLM5", f"{of_rate} ahead of those that have its minutes. Or ask the Network Manager for a later CTOT than 06:09.")):
             shown.js("location.hash = arguments[0]", f"#{name}")
             shown.says("#f-warnings", words)
+
+
+def test_who_may_not_send_is_told_whom_to_ask(page):
+    """X1's stand has no taxi time to its runway: the tower may send one or another runway, the airport another stand."""
+    shown = page(airport="DAY,2025-03-10\nRUNWAY,27L,10,2\nTAXI,A1,27L,15\n",
+                 day={"AP": ["FLT,X1,5", "STAND,X1,B9"], "ATC": ["RWY,X1,27L", f"CLOCK,{at('05:50')}"], "AO": [f"TOBT,X1,{at('06:10')}"]}).open("#X1")
+    for role, words in (("read only", "Ask the tower for the taxi time (TAXI) or another runway, or the airport for another stand."), ("AP", "Send STAND."),
+                        ("ATC", "Send TAXI or RWY.")):
+        shown.choose("#role", role)
+        shown.says("#f-warnings", f"BLOCKED It has no start-up time, by EXOT: its stand has no taxi time to its runway. {words}")
 
 
 def test_a_link_to_a_flight_has_its_form(page):
@@ -787,7 +814,7 @@ def test_warnings_of_one_flight(page):
     shown = page(day={"AP": ["FLT,A2,5"], "ATC": ["RWY,A2,27L"], "NM": [f"CTOT,A2,{at('06:20')}"]})
     fill(shown.server, {"ATC": [f"OFF,A2,{at('06:05')}", f"CLOCK,{at('06:40')}"]})
     shown.open()
-    assert shown.texts("#warnings li") == ["OVERDUE A2 TTOT 06:20 MISSED CTOT 06:20", "BLOCKED, EDGE, PAST, AHEAD, FULL, SHUT: none"]
+    assert shown.texts("#warnings li") == ["OVERDUE A2 TTOT 06:20; MISSED CTOT 06:20", "BLOCKED, EDGE, PAST, AHEAD, FULL, SHUT: none"]
     assert shown.text("#h-w") == "Warnings 2 1 flight"
     shown.server.post(f"AIR,A2,{at('06:21')}", Cdm_Role="ATC")
     shown.until("return document.querySelector('#h-w').innerText.trim() === 'Warnings 0'")

@@ -96,6 +96,17 @@ def test_cards_on_a_phone(page):
     assert shown.js(CLIPPED) == [] and shown.js(BROKEN) == []
 
 
+def test_late_is_amber_on_a_card(page):
+    """As it is in the tables: DLH1 has to wait until 06:25 for its start-up."""
+    shown = opened(page, 360)
+    shown.until("return document.querySelectorAll('#mine li').length === 3")
+    assert shown.js("return document.querySelectorAll('#mine .late').length") == 0
+    shown.server.post("CLOSE,27L,2025-03-10T06:00Z,2025-03-10T06:40Z", "atc")
+    shown.says('#mine li[data-flight="DLH1"]', "late 25")
+    words = "return [...document.querySelectorAll('#mine li[data-flight=DLH1] p:not(.start) > b:not(.cause)')].map((one) => [one.textContent, getComputedStyle(one).color])"
+    assert shown.js(words) == [["late", colour(shown, "warn")], ["25", colour(shown, "warn")]]
+
+
 def test_what_has_left_is_last(page):
     """It waits for nothing that a handler could send. DLH1, at 06:00, is first until then."""
     shown = opened(page, 360)

@@ -12,7 +12,7 @@ def test_what_moved_out_of_the_next_minutes(page):
     """DLH1's window ends at 06:10, before it can take off at 06:15: it is blocked, and DLH2 takes its place. BAW3 goes at 06:50."""
     shown = page().open()
     fill(shown.server, {"NM": [f"CTOT,DLH1,{at('06:00')}"], "AO": [f"TOBT,BAW3,{at('06:50')}"]})
-    shown.says("#since", "1 of the next 30 min moved since ")
+    shown.says("#since", "Next 30 min: 1 moved since ")
     shown.says("#since", "2 moved out: BAW3 DLH1")
     assert shown.row("next", "DLH2")[0] == "06:00 ▲ was 06:05"
     shown.says('#next tr[data-flight="DLH2"] .why', "was 06:05: CTOT DLH1 06:00, NM ")
@@ -20,7 +20,7 @@ def test_what_moved_out_of_the_next_minutes(page):
     shown.says('#next tr[data-flight="BAW3"] .why', "was 06:00: TOBT 06:50, AO ")
     # A filter is kept to.
     shown.type("#filter [name=op]", "BAW")
-    shown.says("#since", "0 of the next 30 min moved since ")
+    shown.says("#since", "Next 30 min: none moved since ")
     assert shown.text("#since").endswith("1 moved out: BAW3")
     shown.click("#since a")
     shown.says("#h-f", "BAW3")
@@ -29,7 +29,7 @@ def test_what_moved_out_of_the_next_minutes(page):
     shown.says("#blocked", "DLH1 was 06:00")
     shown.click("#seen")
     shown.until("return !document.querySelector('#since').innerText.includes('out')")
-    assert shown.text("#since").startswith("0 of")
+    assert shown.text("#since").startswith("Next 30 min: none moved since ")
     # A flight that just changed is highlighted for ten seconds all the same.
     shown.until("return !document.querySelector('#blocked').innerText.includes('was')", seconds=10 + WAIT)
 
@@ -45,7 +45,7 @@ def test_what_moved_is_kept_over_a_load(page):
     shown.open()
     shown.says('#next tr[data-flight="DLH2"] .why', "was 06:05: TOBT DLH1 06:20, AO ")
     shown.says('#next tr[data-flight="DLH1"] .why', "was 06:00: TOBT 06:20, AO ")
-    assert shown.text("#since") == since and since.startswith("1 of the next 30 min moved since ")
+    assert shown.text("#since") == since and since.startswith("Next 30 min: 1 moved since ")
 
 
 def test_why_after_many_records(page):
