@@ -87,16 +87,16 @@ fn ask_line<R: Threads + Sync>(
     state: &DayState,
     number: u32,
     read: &LineRead,
-    asked: Asked,
+    asked: &Asked,
 ) -> Result<Vec<u8>, AllocError>
-    ensures { IfOk result (λ text. IsReplyTo form state.now number (Request.Ask asked) text.items) }
+    ensures { IfOk result (λ text. IsReplyTo form state.now number (Request.Ask asked.now) text.items) }
 {
-    match word_asked(state, &asked) {
-        None => asked_text(lent, form.format, state, number, asked),
+    match word_asked(state, asked) {
+        None => asked_text(lent, form.format, state, number, *asked),
         Some(word) if form.sentences => {
             explained(lent.alloc, form.format, state, number, read, word)
         }
-        Some(_) => asked_text(lent, form.format, state, number, asked),
+        Some(_) => asked_text(lent, form.format, state, number, *asked),
     }
 }
 
@@ -138,7 +138,7 @@ impl ServedDay {
             }
             Request::Ask(asked) => {
                 let number = self.count()?;
-                let text = ask_line(lent, form, self.desk.state(), number, read, asked)?;
+                let text = ask_line(lent, form, self.desk.state(), number, read, &asked)?;
                 Ok(Answer::Reply(text))
             }
         }
