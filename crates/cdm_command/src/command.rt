@@ -27,6 +27,9 @@ const MOST_STEPS: u16 = 1440;
 /// How the steps are written at which scenarios are tried.
 const EACH_FORM: &str = "write FROM..TO/STEP, as 2025-03-10T06:00Z..2025-03-10T10:00Z/5";
 
+/// What to do with a TO of other days.
+const OTHER_DAYS: &str = "TO is before FROM, or after the day that follows FROM's";
+
 /// The path that means standard input.
 pub const STANDARD_INPUT: &str = "-";
 
@@ -431,17 +434,20 @@ fn steps_in(each: Each) -> Result<Each, &'static str> {
     let Ok(day) = Day::of_text(&each.from[..10]) else {
         return Err("FROM is no day of the years 2000 to 2099");
     };
-    match (day.minute_of(&each.from), day.minute_of(&each.to)) {
-        (Ok(from), Ok(to)) if to < from => Err("TO is before FROM"),
-        (Ok(from), Ok(to)) => {
-            let steps = (to.get() - from.get()) / each.step.get() + 1;
-            if steps > MOST_STEPS {
-                return Err("at most 1440 steps are tried");
-            }
-            Ok(each)
-        }
-        _ => Err("TO is before FROM, or after the day that follows FROM's"),
+    let Ok(from) = day.minute_of(&each.from) else {
+        return Err(OTHER_DAYS);
+    };
+    let Ok(to) = day.minute_of(&each.to) else {
+        return Err(OTHER_DAYS);
+    };
+    if to.get() < from.get() {
+        return Err("TO is before FROM");
     }
+    let steps = (to.get() - from.get()) / each.step.get() + 1;
+    if steps > MOST_STEPS {
+        return Err("at most 1440 steps are tried");
+    }
+    Ok(each)
 }
 
 // The scenario that a word names.
