@@ -9,7 +9,11 @@ from conftest import ROOT
 
 CODE, TESTS = ([str(path) for path in sorted((ROOT / folder).glob("*.py"))] for folder in ("board", "board/tests"))
 EDITS = str(ROOT / "board/tests/must_fail")
-CHECKS = [("mypy", "--strict", "--cache-dir", os.devnull, *CODE, EDITS), ("pyflakes3", *CODE, *TESTS, EDITS)]
+# The typed ones, and what they use of tools/.
+SCRIPTS = ["test", *(f"cases/{name}" for name in ("compare", "questions", "streams", "unproved"))]
+SCRIPTS += [f"tools/{name}" for name in ("cases", "contracts", "figures", "repeats")]
+CHECKS = [("mypy", "--strict", "--scripts-are-modules", "--cache-dir", os.devnull, *CODE, EDITS, *SCRIPTS)]
+CHECKS += [("pyflakes3", *CODE, *TESTS, EDITS, *SCRIPTS)]
 
 
 @pytest.mark.parametrize("words", CHECKS, ids=lambda words: words[0])
