@@ -2,7 +2,7 @@
 use Rattle.std.{proofs.Common.{ℕ, List, [], ◌∷◌, ◌++◌, arith, refl, Option, None, Some, Result, Ok, Err, codes}, specs.Prelude.flat_map}
 use Rattle.std.specs.List.{concat}
 use Rattle.json.specs.Json.{string}
-use Rattle.cdm_time.specs.declared.calendar.CalendarDate.{CalendarDate}
+use Rattle.cdm_time.specs.{Times.time_text, declared.calendar.CalendarDate.CalendarDate}
 use Rattle.cdm_flight.specs.{Words.text_of, declared.word.RefusalWord.RefusalWord}
 use Rattle.cdm_report.specs.declared.counts.Counts.{Counts}
 use Rattle.cdm_plan.specs.Day.{DayRecord}
@@ -14,6 +14,7 @@ use Rattle.cdm_json.specs.Plans.{count_members}
 use Rattle.cdm_json.specs.declared.plan.PlanOf.TheVariants as of
 use Rattle.cdm_table.specs.ComparisonJson.{AreChangeLines, AreChangeLinesIf, IsComparisonJson, change_line, change_members, name_members}
 use Rattle.cdm_table.specs.{ComparisonJson.{summary_line, summary_members}, Plans.{IsLineBy, IsPlans, IsScenarioLine, refusal_members}}
+use Rattle.cdm_table.specs.Sweep.{IsSweepJson, at_members, sweep_json_line}
 use Rattle.cdm_table.specs.declared.line.{Line.Line, Summary.Summary}
 use Rattle.cdm_table.specs.declared.line.Summary.TheVariants as summary
 use Rattle.cdm_lines.{specs.Lines.{AreLines, FitsLine, IsLine}, proofs.AnswerLemmas.{is_plan_line, small_counts, small_row}}
@@ -43,6 +44,20 @@ pub summary_fits : (name : Option (List ℕ)) (s : Summary) → FitsLine (object
 summary_fits name s =
     let members = name_members name ++ summary_members s in
     fits (object_of members) (small_object 3 members (small-append 3 (name_members name) (summary_members s) (small_name name) (small_summary s)))
+
+-- A line of a comparison at steps.
+
+small_at : (day : CalendarDate) (at : Option ℕ) → AreSmall 3 (at_members day at)
+small_at day at = (small_or_null 3 (λ minute. string (time_text day minute)) (λ minute. small_string 3 (time_text day minute)) at, tt)
+
+pub step_fits : (day : CalendarDate) (name : Option (List ℕ)) (at : Option ℕ) (s : Summary)
+    → FitsLine (object_of (name_members name ++ (at_members day at ++ summary_members s)))
+step_fits day name at s =
+    let members = name_members name ++ (at_members day at ++ summary_members s) in
+    fits (object_of members)
+    (small_object 3 members
+    (small-append 3 (name_members name) (at_members day at ++ summary_members s) (small_name name)
+    (small-append 3 (at_members day at) (summary_members s) (small_at day at) (small_summary s))))
 
 -- A change.
 pub change_fits : (day : CalendarDate) (name : List ℕ) (before after : Option Row) → FitsLine (object_of (change_members day name before after))
@@ -80,3 +95,10 @@ pub is_comparison : (d : DayRecord) (scenarios : List ScenarioRecord) (asked : O
 is_comparison d scenarios asked text is =
     lines_same text _ is.bytes
     (lines-append (flat_map summary_line is.ranked) is.told (lines-flat_map summary_line is_summary is.ranked) (are_changes_if d asked is.told is.of_asked))
+
+is_step : (day : CalendarDate) (line : Line) → AreLines (sweep_json_line day line)
+is_step day line = one_line _ (_, step_fits day line.name line.at line.summary, refl)
+
+pub is_sweep : (d : DayRecord) (scenarios : List ScenarioRecord) (minutes : List ℕ) (text : List ℕ) → IsSweepJson d scenarios minutes text → AreLines text
+is_sweep d scenarios minutes text is =
+    lines_same text _ is.bytes (lines-flat_map (sweep_json_line d.airport.day) (is_step d.airport.day) is.ranked)

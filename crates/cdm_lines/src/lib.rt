@@ -24,6 +24,7 @@ pub use replies::{
 };
 pub use shifts::shift_answers_are_lines;
 pub use tables::{
-    change_fits_line, comparisons_are_lines, plans_are_lines, refusal_fits_line, summary_fits_line,
+    change_fits_line, comparisons_are_lines, plans_are_lines, refusal_fits_line, step_fits_line,
+    summary_fits_line, sweeps_are_lines,
 };
 pub use traces::{moved_fits_line, told_records_are_lines, traces_are_lines};

@@ -9,6 +9,7 @@ ghost use Rattle.cdm_row.specs.declared.row.Row.{Row};
 ghost use Rattle.cdm_scenario.specs.Scenarios.{ScenarioRecord};
 ghost use Rattle.cdm_table.specs.ComparisonJson.{IsComparisonJson, change_members, name_members, summary_members};
 ghost use Rattle.cdm_table.specs.Plans.{IsPlans, refusal_members};
+ghost use Rattle.cdm_table.specs.Sweep.{IsSweepJson, at_members};
 ghost use Rattle.cdm_table.specs.declared.line.Summary.{Summary};
 ghost use Rattle.cdm_lines.specs.Lines.{AreLines, FitsLine};
 
@@ -21,6 +22,12 @@ pub fn refusal_fits_line()
 /// A line of a comparison.
 pub fn summary_fits_line()
     ensures { (name : Option (List ℕ)) (s : Summary) → FitsLine (object_of (name_members name ++ summary_members s)) }
+{}
+
+/// A line of a comparison at steps.
+pub fn step_fits_line()
+    ensures { (day : CalendarDate) (name : Option (List ℕ)) (at : Option ℕ) (s : Summary) →
+        FitsLine (object_of (name_members name ++ (at_members day at ++ summary_members s))) }
 {}
 
 /// A flight that a scenario changes.
@@ -39,4 +46,10 @@ pub fn plans_are_lines()
 pub fn comparisons_are_lines()
     ensures { (d : DayRecord) (scenarios : List ScenarioRecord) (asked : Option DayRecord) (text : List ℕ) →
         IsComparisonJson d scenarios asked text → AreLines text }
+{}
+
+/// A comparison at steps.
+pub fn sweeps_are_lines()
+    ensures { (d : DayRecord) (scenarios : List ScenarioRecord) (minutes : List ℕ) (text : List ℕ) →
+        IsSweepJson d scenarios minutes text → AreLines text }
 {}
