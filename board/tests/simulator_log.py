@@ -116,7 +116,8 @@ class Engine:
             kept = self.keys.get((batch.desk, batch.key))
             if kept is None:
                 kept = self.keys[batch.desk, batch.key] = range(len(self.rows) + 1, len(self.rows) + 1 + len(batch.records))
-                self.rows += [(batch.desk, batch.key, line) for _, line in batch.records]
+                at = f"{self.world.attempts[id(batch)].began:.3f}"
+                self.rows += [(batch.desk, batch.key, line, at) for _, line in batch.records]
             said.append(kept)
         return said
 
@@ -153,8 +154,8 @@ class Engine:
         rows = self.rows if rows is None else rows
         if not 0 < position <= len(rows):
             return None
-        desk, _, line = rows[position - 1]
-        return Record(position, desk, "AP", line, is_change=line.startswith("DAY,"))
+        desk, _, line, at = rows[position - 1]
+        return Record(position, desk, "AP", line, at, is_change=line.startswith("DAY,"))
 
     def fail_over(self):
         """Another database takes its place. What ran is over; without a synchronous standby the last records may be gone."""
@@ -175,7 +176,7 @@ class Engine:
 
     def lose(self, number):
         kept = max(0, len(self.rows) - number)
-        gone = {(desk, key) for desk, key, _ in self.rows[kept:]}
+        gone = {(desk, key) for desk, key, *_ in self.rows[kept:]}
         # A transaction is lost whole.
         kept = min([self.keys[desk, key].start - 1 for desk, key in gone], default=kept)
         del self.rows[kept:]
@@ -484,7 +485,7 @@ class Desk:
         law(waited <= most, "what waits is answered in time", waited)
         if isinstance(said, range):
             law(not body.is_wrong and len(said) == len(body.lines), "what was answered is in the log", body.key)
-            found = world.engine.rows[said.start - 1:said.stop - 1]
+            found = [row[:3] for row in world.engine.rows[said.start - 1:said.stop - 1]]
             law(found == [(self.name, body.key, line) for line in body.lines], "what was answered is in the log", said, found)
             body.positions = said
             world.clock.at(world.chance.uniform(0, 5), self.next)
@@ -605,7 +606,7 @@ class World:
                 there = keys.get((desk.name, body.key))
                 law(body.positions is None or there == body.positions, "what was answered is in the log once", there, body.positions)
                 law(there is None or body.positions is not None or body.may_be, "what was answered 503 never comes", desk.name, body.key)
-        changes = [line for _, _, line in rows if line.startswith("DAY,")]
+        changes = [line for _, _, line, _ in rows if line.startswith("DAY,")]
         law(changes == [f"DAY,{number}" for number in range(1, len(changes) + 1)], "one change a day", changes)
         law(len(changes) == len(self.engine.changes), "what was carried over stands beside each change")
         for desk in self.desks:
@@ -614,7 +615,7 @@ class World:
                     sum(change <= position for change in self.engine.changes) for position in body.positions]
                 law(len(set(of)) <= 1, "what was answered is in one day", desk.name, body.key)
         state, replies, lines = 0, [], []
-        for position, (_, _, line) in enumerate(rows, 1):
+        for position, (_, _, line, _) in enumerate(rows, 1):
             record = self.engine.record_at(position)
             if record.is_change:
                 replies.append((record, None))

@@ -29,6 +29,8 @@ FAULTS = [
     ("a database of the past is used", "following.py", "return timeline < self.timeline", "return False", 0, "of the past"),
     ("the last row isn't compared", "following.py",
      "self._is_other = self._is_other or self.last is not None and seen.last != self.last", "pass", 0, "one day"),
+    ("the last row is compared without its time", "following.py", "seen.last != self.last",
+     'self.last._replace(at="") != (seen.last and seen.last._replace(at=""))', 5114367, "one day"),
     ("a reply to another record is kept", "life.py",
      'if not self._due or reply.get("record") != self._replies:', "if not self._due:", 33, "one day"),
     ("a reply with another count is kept", "life.py", "if number == self._accepted + 1:", "if number:", 509, "one day"),
