@@ -1,5 +1,5 @@
 -- The inputs that are opened for a run, and what the run makes of what they give.
-use Rattle.std.specs.Prelude.{◌≡◌, ℕ, Bool, false, List, [], Option, None, Some}
+use Rattle.std.specs.Prelude.{◌≡◌, ℕ, Bool, false, List, [], Option, Some}
 use Rattle.std.specs.Option.{option_copied}
 use Rattle.cdm_files.specs.declared.common_fault.Input.{Input}
 use Rattle.cdm_files.specs.declared.common_fault.Input.TheVariants.{Airport, Feed}
@@ -9,18 +9,16 @@ use Rattle.cdm_feed.specs.declared.asked.Asked.{Asked}
 use Rattle.cdm_feed.specs.declared.counted.Counted.{Counted}
 use Rattle.cdm_command.specs.declared.command.DayFiles.{DayFiles}
 
--- what was opened at a path, or is empty where there is none: as which input, whether a read of it failed, the bytes that its reads gave, and
--- those that it has left, where that is known
+-- what was opened at a path, or is empty where there is none: as which input, whether a read of it failed, and the bytes that its reads gave
 pub record OpenedFile : Type 0 where
   pub path : Option (List ℕ)
   pub input : Input
   pub failed : Bool
   pub given : List ℕ
-  pub left : Option (List ℕ)
 
 -- the file of a path, opened as an input, of which nothing was read yet
-abbrev pub IsUnread : Option (List ℕ) → Input → OpenedFile → Type 0
-IsUnread path input file = (file.path ≡ path) × (file.input ≡ input) × (file.failed ≡ false) × (file.given ≡ [])
+abbrev pub unread : Option (List ℕ) → Input → OpenedFile
+unread path input = record { path = path; input = input; failed = false; given = [] }
 
 -- the file of this path was opened as this input
 abbrev pub IsOpenedAt : Option (List ℕ) → Input → OpenedFile → Type 0

@@ -1,6 +1,5 @@
 //! What is asked of the files of a day is made of what they give.
-ghost use Rattle.std.specs.Prelude.{◌≡◌, [], false, IfErr, IfOk, None, OnErr};
-ghost use Rattle.std.specs.Option.{option_copied};
+ghost use Rattle.std.specs.Prelude.{◌≡◌, false, IfErr, IfOk, OnErr};
 ghost use Rattle.cdm_files.specs.Device.{Passes};
 ghost use Rattle.cdm_files.specs.RunFaults.{is_write_fault};
 ghost use Rattle.cdm_fault.specs.Statuses.{status_of_run};
@@ -15,7 +14,7 @@ use cdm_feed::{Counted, Device, Input, Lent, RunError, run_asked};
 use cdm_phase::OpenGate;
 use std::fs::Files;
 use std::io;
-use std::io::{Read, Write};
+use std::io::Write;
 use std::thread::Threads;
 
 /// How a run ended that has written its text.
@@ -29,7 +28,7 @@ pub struct Ended {
 
 /// The files that were opened for a question, and how the run ended that made a text of them.
 #[derive(Drop)]
-pub struct Answer<'a, A: Read, F: Read, T: Read> {
+pub struct Answer<'a, A, F, T> {
     /// The airport file.
     pub airport: Named<'a, A>,
     /// The feed.
@@ -42,7 +41,6 @@ pub struct Answer<'a, A: Read, F: Read, T: Read> {
 
 /// Opens the files of a question, and writes the text that is asked of them. A fault is one of opening a file, or want of memory for it:
 /// then nothing is written. What stops the run after that is in the answer.
-#[tactic(auto, using(crate::proofs::GivenLemmas::none_given))]
 pub fn answer_of<'a, R: AllocGlobal + Files + io::Input + Threads + Sync, W: Write>(
     rt: &R,
     question: &Question<'a>,
@@ -56,8 +54,6 @@ pub fn answer_of<'a, R: AllocGlobal + Files + io::Input + Threads + Sync, W: Wri
     // What was written is the one text of what these files gave.
     ensures made { IfOk result (λ answer. IfOk answer.ended (λ ended.
         IsMadeOf question.now.asked answer.airport answer.feed answer.third ended.counted (Passes out.old out.new))) }
-    // Without a third file the third input had no byte.
-    ensures none { option_copied question.now.files.third ≡ None → IfOk result (λ answer. IfOk answer.ended (λ ended. answer.third.given ≡ [])) }
     ensures status { IfOk result (λ answer. IfOk answer.ended (λ ended.
         ended.status ≡ status_of_run question.now.is_strict ended.counted)) }
 

@@ -8,7 +8,7 @@ use std::io::Read;
 /// A reader that remembers the last byte that it gave, and whether it came to its end.
 #[derive(Drop)]
 pub struct Ending<R> {
-    pub(crate) inner: R,
+    inner: R,
     last: Option<u8>,
     ended: bool,
 }

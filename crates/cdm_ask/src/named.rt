@@ -1,38 +1,31 @@
 //! An input by the path at which it was opened.
 ghost use Rattle.std.specs.Prelude.{◌≡◌};
 ghost use Rattle.std.specs.Option.{option_copied};
-ghost use Rattle.cdm_ask.specs.Opening.{IsUnread, OpenedFile};
+ghost use Rattle.cdm_ask.specs.Opening.{OpenedFile, unread};
 
 use crate::ending::Ending;
 use cdm_feed::{Device, Input};
-use std::io::Read;
 use std::marker::Model;
 
-/// A reader in a device, by the path at which it was opened, and as which input.
+/// A reader in a device, by the path at which it was opened, and as which input. That it has no byte without a path is to be read in
+/// `file_or_empty`.
 #[derive(Drop)]
-pub struct Named<'a, F: Read> {
+pub struct Named<'a, F> {
     path: Option<&'a str>,
     input: Input,
     pub(crate) device: Device<Ending<F>>,
 }
 
-impl<'a, F: Read> Model for Named<'a, F> {
+impl<'a, F> Model for Named<'a, F> {
     ghost Value = { OpenedFile };
 
-    ghost view = { λ n. record {
-      path = option_copied n.path;
-      input = n.input;
-      failed = n.device.failed;
-      given = n.device.passed;
-      left = F.remaining n.device.inner.inner;
-    } };
+    ghost view = { λ n. record { path = option_copied n.path; input = n.input; failed = n.device.failed; given = n.device.passed } };
 }
 
-impl<'a, F: Read> Named<'a, F> {
+impl<'a, F> Named<'a, F> {
     // What was opened at this path, as this input. Nothing of it was read yet.
     pub(crate) fn new(path: Option<&'a str>, input: Input, file: F) -> Named<'a, F>
-        ensures unread { IsUnread (option_copied path.entry) input result }
-        ensures left { result.left ≡ F.remaining file }
+        ensures { result ≡ unread (option_copied path.entry) input }
     {
         Named {
             path,
@@ -50,7 +43,7 @@ impl<'a, F: Read> Named<'a, F> {
     }
 }
 
-impl<F: Read + Drop> Named<'_, F> {
+impl<F: Drop> Named<'_, F> {
     /// Whether all was read, and the last line has no LF.
     pub fn lacks_end(self) -> bool {
         self.device.into_inner().lacks_end()

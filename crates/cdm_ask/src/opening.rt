@@ -1,7 +1,7 @@
 //! The files that the words name.
-ghost use Rattle.std.specs.Prelude.{◌≡◌, [], IfErr, IfOk, None, Some};
+ghost use Rattle.std.specs.Prelude.{◌≡◌, IfErr, IfOk, Some};
 ghost use Rattle.std.specs.Option.{option_copied};
-ghost use Rattle.cdm_ask.specs.Opening.{IsUnread};
+ghost use Rattle.cdm_ask.specs.Opening.{unread};
 ghost use Rattle.cdm_ask.specs.Stops.{IsUnopened};
 
 use crate::named::Named;
@@ -31,7 +31,7 @@ pub fn open<'a, R: AllocGlobal + Files + io::Input>(
     path: &'a str,
     input: Input,
 ) -> Result<Named<'a, Opened<R>>, Fault>
-    ensures opened { IfOk result (IsUnread (Some path.now) input) }
+    ensures opened { IfOk result (λ file. file ≡ unread (Some path.now) input) }
     ensures fault { IfErr result (IsUnopened input) }
 {
     let file = open_file(rt, path, input)?;
@@ -44,15 +44,25 @@ pub fn open_named<'a, R: AllocGlobal + Files + io::Input>(
     path: Option<&'a str>,
     input: Input,
 ) -> Result<Named<'a, OpenedOrEmpty<R>>, Fault>
-    ensures opened { IfOk result (IsUnread (option_copied path.entry) input) }
-    ensures empty { option_copied path.entry ≡ None → IfOk result (λ file. file.left ≡ Some []) }
+    ensures opened { IfOk result (λ file. file ≡ unread (option_copied path.entry) input) }
     ensures fault { IfErr result (IsUnopened input) }
 {
-    let file = match path {
-        Some(path) => Either::Left(open_file(rt, path, input)?),
-        None => Either::Right([].as_slice()),
-    };
+    let file = file_or_empty(rt, path, input)?;
     Ok(Named::new(path, input, file))
+}
+
+// Opens a file, if one is named.
+fn file_or_empty<R: AllocGlobal + Files + io::Input>(
+    rt: &R,
+    path: Option<&str>,
+    input: Input,
+) -> Result<OpenedOrEmpty<R>, Fault>
+    ensures { IfErr result (IsUnopened input) }
+{
+    match path {
+        Some(path) => Ok(Either::Left(open_file(rt, path, input)?)),
+        None => Ok(Either::Right(&[])),
+    }
 }
 
 // Opens a file, or takes standard input where that is its name. A folder is no file. A fault is named as the input.
