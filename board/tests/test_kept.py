@@ -53,6 +53,8 @@ def test_what_was_answered_is_kept(board, chance):
     for name in DESKS:
         flat = [reply for replies in answered[name] for reply in replies]
         for reply in flat:
+            # The log has no sentences.
+            reply.pop("sentence", None)
             assert {**at[reply["position"]], "changes": 0} == {**reply, "changes": 0}
         assert [reply["line"] for reply in flat] == [line for lines in sent[name][:len(answered[name])] for line in lines]
         positions = [record["position"] for record in log if record["desk"] == name]
