@@ -416,9 +416,18 @@ def test_an_error_of_a_what_if_is_said_at_its_line(page):
     shown.allowed.append("422 (Unprocessable Entity)")
     shown.click("#b-what-if")
     shown.says("#scenario-h", "CLOSE,09,06:20,06:40")
+    shown.until("return document.querySelector('#p-what-if form.send [name=kind]') !== null")
+    shown.choose("#p-what-if form.send [name=kind]", "CNL")
+    shown.type("#p-what-if form.send [name=flight]", "DLH2")
+    shown.click("#p-what-if form.send button[type=submit]")
+    shown.says("#p-what-if form.send .reply", "Added to scenario A; nothing is sent.")
     shown.js("document.querySelector('#scenario').value = 'SCENARIO,A\\nTOBT,DLH1,06:20\\nCLOSE,09,06:20\\n'")
     shown.click("#p-what-if form button")
     shown.says("#wi-fault", "Line 3: CLOSE takes 4 fields (CLOSE, runway, from, to); this record has 3.")
+    # It is between the button that was pressed and the form below, which says no more what was added.
+    assert shown.js("""const [button, fault, form] = ['#p-what-if form button', '#wi-fault', '#p-what-if form.send'].map((place) => document.querySelector(place).getBoundingClientRect());
+        return [fault.top - button.bottom < 40, fault.bottom <= form.top];""") == [True, True]
+    assert not shown.find("#p-what-if form.send .reply").is_displayed()
     assert "cdmseq" not in shown.text("#wi-fault")
     assert shown.js("const box = document.querySelector('#scenario'); return box.value.slice(box.selectionStart, box.selectionEnd)") == "CLOSE,09,06:20"
     shown.js("document.querySelector('#scenario').value = 'SCENARIO,A\\nTOBT,DLH1,06:20\\nSCENARIO,B\\nPRIO,DLH2,0\\nPRIO,XY9,0'")
