@@ -277,7 +277,7 @@ def test_a_press_in_the_strip_is_never_lost(page):
     shown.server.post(f"CTOT,AFR4,{at('06:40')}", Cdm_Role="NM")
     shown.says("#blocked", "KLM5")
     shown.until("return document.querySelector('header .blk dd').textContent === '3'")
-    shown.says("#conn", "new warning: BLOCKED AFR4.")
+    shown.says("#conn", "ew warning: BLOCKED AFR4.")
     assert shown.js("return link.isConnected")
     shown.js("link.dispatchEvent(new PointerEvent('pointerup', {bubbles: true})); link.click()")
     assert shown.js("return location.hash") == "#EZY7"
@@ -362,7 +362,7 @@ def test_nothing_is_said_before_it_is_known(page):
     shown = page()
     driver = shown.driver
     script = driver.execute_cdp_cmd("Page.addScriptToEvaluateOnNewDocument", {"source": """const real = window.fetch;
-        window.fetch = (path, ...words) => (String(path).startsWith('/v1/plan') || String(path).startsWith('/v1/warn') ? new Promise(() => {}) : real(path, ...words));"""})
+        window.fetch = (path, ...words) => (/^[/]v1[/](plan|warn|load)/.test(path) ? new Promise(() => {}) : real(path, ...words));"""})
     try:
         shown.open(ready=False)
         shown.until("return document.querySelector('#next thead') !== null")
@@ -372,8 +372,9 @@ def test_nothing_is_said_before_it_is_known(page):
             "const e = document.createElement('i'); e.style.color = 'var(--alarm)'; document.body.append(e); return getComputedStyle(e).color")
         heads = "return [...document.querySelectorAll('thead')].filter((one) => one.checkVisibility({checkVisibilityCSS: true}) && !one.parentNode.tBodies[0].rows.length).length"
         assert shown.js(heads) == 0
-        top = "return document.querySelector(arguments[0]).getBoundingClientRect().top"
-        assert shown.js(top, "#left > :first-child") == shown.js(top, "#warnings")
+        # The runways' place is there, so both columns begin together, and nothing jumps when they come.
+        box = shown.js("const { top, height } = document.querySelector('#runways').getBoundingClientRect(); return [top, height >= 100]")
+        assert box == [shown.js("return document.querySelector('#warnings').getBoundingClientRect().top"), True]
         places = "const is = getComputedStyle(document.querySelector('#next .chunk'), '::after'); return [is.content !== 'none', parseFloat(is.height) >= 320]"
         assert shown.js(places) == [True, True]
     finally:
@@ -381,6 +382,8 @@ def test_nothing_is_said_before_it_is_known(page):
     shown.open()
     assert shown.js(places)[0] is False
     assert shown.js("return document.querySelector('#next thead').checkVisibility({checkVisibilityCSS: true})")
+    shown.open("?status=cancelled")
+    assert not shown.js(heads)
 
 
 def test_a_what_if_takes_hours_and_minutes(page):
