@@ -118,13 +118,16 @@ function cellsOf(runway, now, date) {
 /** In words, whether it is open. */
 function stateOf(cells, { cell: length }, date) {
   const isShut = (cell) => cell.closed >= length;
-  const open = cells.find((cell) => !isShut(cell));
-  if (isShut(cells[0])) {
-    const again = open && cells.find((cell) => cell.from > open.from && cell.closed);
-    return !open ? 'closed for these hours' : `closed, opens at ${open.closed ? 'or after ' : ''}${hm(open.from, date)}`
+  const part = cells[0].closed && !isShut(cells[0]) ? `closed ${cells[0].closed} of these ${length} min` : '';
+  const rest = part ? cells.slice(1) : cells;
+  if (rest.length > 0 && isShut(rest[0])) {
+    const open = rest.find((cell) => !isShut(cell));
+    const again = open && rest.find((cell) => cell.from > open.from && cell.closed);
+    if (!open) return part ? `${part}, then for these hours` : 'closed for these hours';
+    return `${part || 'closed'}, opens at ${open.closed ? 'or after ' : ''}${hm(open.from, date)}`
       + `${again ? `, closes again at ${again.closed < length ? 'or after ' : ''}${hm(again.from, date)}` : ''}`;
   }
-  if (cells[0].closed) return `closed ${cells[0].closed} of these ${length} min`;
+  if (part) return part;
   const next = cells.find((cell) => cell.closed);
   return next ? `open, closes at ${next.closed < length ? 'or after ' : ''}${hm(next.from, date)}` : 'open';
 }

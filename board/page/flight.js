@@ -4,7 +4,7 @@ import { $, $$, el, say } from './dom.js';
 import { Problem, needed, objects } from './net.js';
 import { showRecords } from './records.js';
 import { hm, later, minutesFrom } from './times.js';
-import { current, explained } from './warnings.js';
+import { ACT, current, explained } from './warnings.js';
 
 const LATER = 10;
 const DRAWN = 180;
@@ -96,7 +96,7 @@ export class FlightPanel {
     if (text === this.told) return;
     this.told = text;
     $('#f-warnings').hidden = !list.length;
-    $('#f-warnings').replaceChildren(...list.map(({ kind, means, act, answers }) => el('li', {}, el('b', {}, kind), ` ${means} ${act} `,
+    $('#f-warnings').replaceChildren(...list.map(({ kind, means, act, answers }) => el('li', {}, el('b', { class: ACT.includes(kind) && 'act' }, kind), ` ${means} ${act} `,
       ...answers.filter((one) => this.kinds().some((other) => other.kind === one.kind)).map(({ kind: record, values }) => {
         const button = el('button', { type: 'button', class: 'quiet' }, `Put ${[record, ...values].join(' ')} into the form`);
         button.addEventListener('click', () => this.form?.propose(record, ...values));

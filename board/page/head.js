@@ -8,10 +8,16 @@ const NO_CLOCK = 120000;
 const PAUSE = 10000;
 const THEME = 'cdm-theme';
 const SHORT = /(?<=[BO]T )(\d\d)(\d\d)(\d\d)/g; // a time of the program's text: its date, hour and minute
+/** What the words mean with which the program tells of a change of day. */
+const TOLD = { LEFT: 'it has left its stand, and the next day won’t know it; send AIR as soon as it is airborne', EARLIER: 'this time becomes 00:00',
+  REFUSED: 'the next day’s airport file doesn’t take this record', GONE: 'so many flights stay behind', STAY: 'so many flights go on' };
 const root = document.documentElement;
 /** What the window's name says first: what has just moved. */
 export const notice = { text: '' };
 const SENT = { taken: 'Accepted', refused: 'Refused', 'not taken': 'Not taken', 'not known': 'It isn’t known whether this was taken', 'not sent': 'Not sent' };
+
+/** What there is of them, in words. */
+const meaning = (lines) => Object.keys(TOLD).filter((word) => lines.some((line) => line.startsWith(word))).map((word) => `${word}: ${TOLD[word]}.`).join(' ');
 
 export class Head {
   constructor(day) {
@@ -36,13 +42,14 @@ export class Head {
   /** What is to be known before the day changes, and the plan of the day before. */
   async ahead() {
     const box = $('#day');
+    const close = el('button', { type: 'button', popovertarget: box.id, popovertargetaction: 'hide', class: 'quiet' }, 'Close');
     box.showPopover();
     try {
       const [{ told, before, next }] = (await objects('/v1/day.json')).list;
-      box.replaceChildren(`Before ${dayText(next)}`, el('pre', {}, told.join('\n').replace(SHORT, '$1 $2:$3')), before ? this.past(box, before) : '');
+      box.replaceChildren(close, el('b', {}, `Before ${dayText(next)}`), el('pre', {}, told.join('\n').replace(SHORT, '$1 $2:$3')), el('p', { class: 'hint' }, meaning(told)), before ? this.past(box, before) : '');
     } catch (problem) {
       if (!(problem instanceof Problem)) throw problem;
-      box.replaceChildren(`No answer: ${problem.message}.`);
+      box.replaceChildren(close, `No answer: ${problem.message}.`);
     }
     box.focus();
   }

@@ -26,8 +26,8 @@ export async function showPast(box, date) {
     const body = el('tbody');
     const title = el('h2', { id: 'h-past', tabindex: -1 }, `Plan of ${dayText(date)}, as it ended`);
     const head = el('thead', {}, el('tr', {}, ...TABLES.all.map((name) => el('th', { scope: 'col', ...(COLUMNS[name].isNumber && NUMBERS) }, COLUMNS[name].label))));
-    box.replaceChildren(title, el('p', {}, `${plan.flights.length} flights: placed ${plan.placed}, late ${plan.late}, blocked ${plan.blocked}, delay ${plan.delay} min. `,
-      el('a', { href: address, target: '_blank', rel: 'noopener' }, 'As a text, in a tab of its own'), ' ', close),
+    box.replaceChildren(close, title, el('p', {}, `${plan.flights.length} flights: placed ${plan.placed}, late ${plan.late}, blocked ${plan.blocked}, delay ${plan.delay} min. `,
+      el('a', { href: address, target: '_blank', rel: 'noopener' }, 'As a text, in a tab of its own')),
     el('div', { class: 'scroll', tabindex: 0, role: 'region', 'aria-labelledby': title.id }, el('table', { 'aria-labelledby': title.id }, head, body)));
     title.focus();
     const rows = plan.flights.toSorted((one, other) => (keyOf(one) < keyOf(other) ? -1 : 1));
@@ -37,6 +37,6 @@ export async function showPast(box, date) {
     }
   } catch (problem) {
     if (!(problem instanceof Problem)) throw problem;
-    box.replaceChildren(`No answer: ${problem.message}. `, close);
+    box.replaceChildren(close, `No answer: ${problem.message}.`);
   }
 }

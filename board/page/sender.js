@@ -29,7 +29,8 @@ export class Sender {
     this.back.type = 'button';
     this.backEffect = new Effect(day, `${this.id}-back`);
     this.wider = el('small', { hidden: true }, 'It opens what another CLOSE has closed as well.');
-    this.undo = el('div', { class: 'undo', hidden: true }, this.back, ' ', this.wider, this.backEffect.root, this.backNote);
+    this.earlier = el('small', { hidden: true });
+    this.undo = el('div', { class: 'undo', hidden: true }, this.earlier, this.back, ' ', this.wider, this.backEffect.root, this.backNote);
     // What comes and goes is below the button, which stays where it is.
     this.root = el('form', { class: 'send', 'aria-label': label }, ...inputs, this.button, this.note,
       el('p', { class: 'hint', id: `${this.id}-line` }, 'Goes out as ', this.line), this.effect.root, this.reply, this.undo);
@@ -131,11 +132,13 @@ export class Sender {
     const { line, row, isBack } = this.sent;
     this.answer(isBack ? 'Taken back.' : 'Accepted.', this.changedText(reply), reply, true);
     const back = undoing(line, row);
-    if (back && this.maySend().includes(back.split(',', 1)[0])) this.offerBack(back);
+    if (back && this.maySend().includes(back.split(',', 1)[0])) this.offerBack(back, reply.position);
     else this.undo.hidden = true;
   }
 
-  offerBack(line) {
+  /** What takes back a record of this position. */
+  offerBack(line, position) {
+    say(this.earlier, `For record ${position}, which was accepted before:`);
     this.undo.hidden = false;
     this.back.dataset.line = line;
     say(this.back, `Take back: ${recordText(line)}`);
@@ -144,7 +147,9 @@ export class Sender {
     this.backEffect.of([line], flightOf(line, this.day), 0);
   }
 
+  /** The reply says why: what was said of its effect before says no more. */
   async refused(reply) {
+    this.effect.clear();
     if (!reply.sentence) this.answer(`Refused, ${reply.word}.`, 'Nothing is changed.', reply, false);
     const words = await whyRefused(reply);
     this.answer('Refused,', `${words.replace(/[.]?$/, '.')} Nothing is changed.`, reply, false);
@@ -155,6 +160,7 @@ export class Sender {
     this.reply.replaceChildren(el('b', {}, word), ` ${words} `, reply ? el('small', {}, `record ${reply.position}, ${reply.at.slice(11, 19)}`) : '');
     this.reply.classList.remove('asks');
     this.reply.classList.toggle('good', isGood);
+    this.earlier.hidden = isGood; // what is taken back below isn't what this reply is of
     this.reply.hidden = false;
     this.reply.focus({ preventScroll: true });
     this.reply.scrollIntoView({ block: 'nearest' });

@@ -11,13 +11,16 @@ let shown = '';
 /** A runway's cells from NOW on in a few words: `open 4/10'`, `shut to 07:00, again 07:10`. */
 function words(cells, { cell: length }, date) {
   const isShut = (cell) => cell.closed >= length;
-  const open = cells.find((cell) => !isShut(cell));
   const ends = (cell) => `${cell.closed && !isShut(cell) ? 'about ' : ''}${hm(cell.from, date)}`;
-  if (isShut(cells[0])) {
-    const again = open && cells.find((cell) => cell.from > open.from && cell.closed);
-    return `shut${open ? ` to ${ends(open)}` : ''}${again ? `, again ${ends(again)}` : ''}`;
+  const part = cells[0].closed && !isShut(cells[0]) ? ` ${cells[0].closed} of ${length} min` : '';
+  const rest = part ? cells.slice(1) : cells;
+  if (rest.length > 0 && isShut(rest[0])) {
+    const open = rest.find((cell) => !isShut(cell));
+    const again = open && rest.find((cell) => cell.from > open.from && cell.closed);
+    if (!open) return `shut${part && `${part} and on`}`;
+    return `shut${part && `${part}, then`} to ${ends(open)}${again ? `, again ${ends(again)}` : ''}`;
   }
-  if (cells[0].closed) return `shut ${cells[0].closed} of ${length} min`;
+  if (part) return `shut${part}`;
   const next = cells.find((cell) => cell.closed);
   return `open${cells[0].cap === null ? '' : ` ${cells[0].cap}/${length}'`}${next ? ` to ${ends(next)}` : ''}`;
 }

@@ -198,9 +198,11 @@ export class Warnings {
         ...more.flatMap((other) => ['; ', el('b', {}, other.kind), said(other)])));
     }
     const rest = this.whole.has(kind) ? 0 : mine.length - MOST;
-    const named = ([one, ...more]) => (one.flight ? [link(one), ' ', more.length > 0 && el('small', {}, `${more.map((other) => other.kind).join(', ')} `)] : [`${said(one).trim()}, `]);
+    const shown = rest > 0 ? mine.slice(0, MOST) : mine;
+    const isMixed = shown.some((group) => group.length > 1);
+    const named = ([one, ...more], at) => (one.flight ? [el('span', {}, link(one), more.length > 0 && el('small', {}, ` ${more.map((other) => other.kind).join(', ')}`)), isMixed && at < shown.length - 1 ? '; ' : ' '] : [`${said(one).trim()}, `]);
     return [el('li', { class: name }, el('b', {}, kind), ' ', el('b', { class: 'n' }, all > mine.length ? `${mine.length} of ${all}` : String(mine.length)),
-      ' ', fresh(mine.flat()), ' ', ...(rest > 0 ? mine.slice(0, MOST) : mine).flatMap(named),
+      ' ', fresh(mine.flat()), ' ', ...shown.flatMap(named),
       rest > 0 && this.more(kind, rest), all > mine.length && el('small', {}, 'with a TOBT or CTOT'))];
   }
 

@@ -101,7 +101,7 @@ export class WhatIf {
       if (this.form) return;
       this.form = new ScenarioForm(list, { flight: null, row: null, day: this.day, runways: this.runways, label: 'A record for the last scenario',
         word: 'Add to scenario', onSend: (line) => this.add(line) });
-      $('#p-what-if form').after(this.form.root);
+      $('#wi-fault').after(this.form.root);
     } catch (problem) {
       if (!(problem instanceof Problem)) throw problem; // records can be typed
     }
@@ -257,6 +257,7 @@ export class WhatIf {
     const number = this.asked += 1;
     const body = this.text;
     this.fault('');
+    if (this.form) this.form.reply.hidden = true; // it was of what was written before
     if (!this.names.length) return this.fault('A scenario begins with a line SCENARIO,NAME.');
     say(this.works, 'Comparing …');
     try {

@@ -153,6 +153,7 @@ def test_what_takes_a_record_back(page, role, flight, kind, field, value, sent, 
     shown.click("#p-flight form button")
     until(lambda: lines(shown)[-1] == sent)
     if kind == "CNL":
+        shown.allowed.append("422 (Unprocessable Entity)")  # its effect may be asked just as it is sent
         shown.says("#h-f", "cancelled")
         assert not shown.find("#f-send").is_displayed()
         return
@@ -161,6 +162,26 @@ def test_what_takes_a_record_back(page, role, flight, kind, field, value, sent, 
     if back:
         shown.click("#p-flight .back")
         shown.says("#p-flight .reply", "Taken back.")
+
+
+def test_a_refused_record_after_one_that_was_accepted(page):
+    """The reply alone says why it is refused; what takes a record back says of which one, once the reply is of another."""
+    shown = form_of(page, "ATC", "DLH2")
+    shown.choose("#p-flight form [name=kind]", "PRIO")
+    shown.type("#p-flight form [name=priority]", "2")
+    shown.click("#p-flight form button")
+    shown.says("#p-flight .reply", "Accepted.")
+    assert shown.text("#p-flight .undo").startswith("Take back: PRIO DLH2 5")
+    accepted = len(lines(shown))
+    shown.type("#p-flight form [name=priority]", "12")
+    shown.says("#p-flight .effect", "It would be refused: ")
+    shown.click("#p-flight form button")
+    shown.says("#p-flight .reply", "Refused, RANGE: ")
+    assert not shown.find("#p-flight .effect").is_displayed()
+    assert shown.text("#p-flight .undo").startswith(f"For record {accepted}, which was accepted before: Take back: PRIO DLH2 5")
+    shown.click("#p-flight .back")
+    shown.says("#p-flight .reply", "Taken back.")
+    assert shown.text("#p-flight .undo").startswith("Take back: PRIO DLH2 2")
 
 
 def test_a_closure_is_taken_back(page):

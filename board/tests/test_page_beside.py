@@ -1,7 +1,7 @@
 """Scenarios beside each other: on the runways' one axis of time, with the causes of each, and the difference between any two. The day by hand is in
 browser.py."""
 import pytest
-from browser import size
+from browser import fill, size
 from test_page_act import lines, what_if
 from test_page_eye import BROKEN, CLIPPED, SPACED
 from test_page_look import TOKENS
@@ -134,10 +134,12 @@ def test_of_many_scenarios_four_are_beside_each_other(page):
 def test_scenarios_keep_the_rules(page, width):
     """Where the panel covers the page the runways are in it, as long as it is open; nothing is cut off, and no name or time is broken."""
     shown = page()
+    fill(shown.server, {"ATC": [f"CLOSE,27L,{at('07:52')},{at('07:55')}"]})  # part of a cell, which is said to a reader alone
     size(shown.driver, width, 900)
     shown.open()
     three(shown)
     shown.until("return document.querySelectorAll('.band .wi .name').length === 6")
+    assert shown.js("const panel = document.querySelector('#p-what-if'); return panel.scrollWidth - panel.clientWidth") == 0
     isNarrow = width < 1280
     assert shown.js("const one = document.querySelector('#runways'); return [one.closest('.panel') !== null, one.inert, one.checkVisibility()]") == [isNarrow, False, True]
     for rule in (RULES, TARGETS, CLIPPED, BROKEN):

@@ -27,7 +27,9 @@ def test_the_page_over_a_change_of_day(page):
     shown.click("#date")
     shown.says("#day", "Before Tue 11 Mar 2025 GONE 1 STAY 2")
     assert shown.js("return document.querySelector('#day a')") is None
-    shown.js("document.querySelector('#day').hidePopover()")
+    assert shown.text("#day .hint") == "GONE: so many flights stay behind. STAY: so many flights go on."
+    shown.click("#day button")
+    assert not shown.find("#day").is_displayed()
     answer = shown.server.request("POST", "/v1/day", "", Cdm_Role="ATC")
     assert answer.status == 200, answer
     shown.says("h1", "Tue 11 Mar 2025")

@@ -64,6 +64,15 @@ def test_each_reason_has_the_letter_of_the_picture(page):
     assert not drawn or drawn <= set(letters.values())
 
 
+def test_of_many_warnings_each_has_its_flight(page):
+    """Four have left, and are overdue; the runway of one of them is closed: it is seen which one that is."""
+    names = ["A0", "A1", "A2", "A3"]
+    shown = page(day={"AP": [f"FLT,{name},5" for name in names], "ATC": [f"RWY,{name},{'09' if name == 'A1' else '27L'}" for name in names]})
+    fill(shown.server, {"ATC": [f"OFF,{name},{at('05:00')}" for name in names] + [f"CLOSE,09,{at('05:50')},{at('06:30')}", f"CLOCK,{at('06:00')}"]})
+    shown.open()
+    assert shown.texts("#warnings li")[0] == "OVERDUE 4 A0; A1 SHUT; A2; A3"
+
+
 def test_many_warnings(page):
     """Of twelve that are overdue and of ten that are blocked eight are named, and how many more there are; a press shows them. What is to be acted on
     now is first."""

@@ -364,7 +364,7 @@ def test_nothing_is_said_before_it_is_known(page):
     shown = page()
     driver = shown.driver
     script = driver.execute_cdp_cmd("Page.addScriptToEvaluateOnNewDocument", {"source": """const real = window.fetch;
-        window.fetch = (path, ...words) => (String(path).startsWith('/v1/plan') || String(path).startsWith('/v1/warn') ? new Promise(() => {}) : real(path, ...words));"""})
+        window.fetch = (path, ...words) => (/^[/]v1[/](plan|warn|load)/.test(path) ? new Promise(() => {}) : real(path, ...words));"""})
     try:
         shown.open(ready=False)
         shown.until("return document.querySelector('#next thead') !== null")
@@ -374,8 +374,9 @@ def test_nothing_is_said_before_it_is_known(page):
             "const e = document.createElement('i'); e.style.color = 'var(--alarm)'; document.body.append(e); return getComputedStyle(e).color")
         heads = "return [...document.querySelectorAll('thead')].filter((one) => one.checkVisibility({checkVisibilityCSS: true}) && !one.parentNode.tBodies[0].rows.length).length"
         assert shown.js(heads) == 0
-        top = "return document.querySelector(arguments[0]).getBoundingClientRect().top"
-        assert shown.js(top, "#left > :first-child") == shown.js(top, "#warnings")
+        # The runways' place is there, so both columns begin together, and nothing jumps when they come.
+        box = shown.js("const { top, height } = document.querySelector('#runways').getBoundingClientRect(); return [top, height >= 100]")
+        assert box == [shown.js("return document.querySelector('#warnings').getBoundingClientRect().top"), True]
         places = "const is = getComputedStyle(document.querySelector('#next .chunk'), '::after'); return [is.content !== 'none', parseFloat(is.height) >= 320]"
         assert shown.js(places) == [True, True]
     finally:
@@ -383,6 +384,8 @@ def test_nothing_is_said_before_it_is_known(page):
     shown.open()
     assert shown.js(places)[0] is False
     assert shown.js("return document.querySelector('#next thead').checkVisibility({checkVisibilityCSS: true})")
+    shown.open("?status=cancelled")
+    assert not shown.js(heads)
 
 
 def test_a_what_if_takes_hours_and_minutes(page):
@@ -418,9 +421,18 @@ def test_an_error_of_a_what_if_is_said_at_its_line(page):
     shown.allowed.append("422 (Unprocessable Entity)")
     shown.click("#b-what-if")
     shown.says("#scenario-h", "CLOSE,09,06:20,06:40")
+    shown.until("return document.querySelector('#p-what-if form.send [name=kind]') !== null")
+    shown.choose("#p-what-if form.send [name=kind]", "CNL")
+    shown.type("#p-what-if form.send [name=flight]", "DLH2")
+    shown.click("#p-what-if form.send button[type=submit]")
+    shown.says("#p-what-if form.send .reply", "Added to scenario A; nothing is sent.")
     shown.js("document.querySelector('#scenario').value = 'SCENARIO,A\\nTOBT,DLH1,06:20\\nCLOSE,09,06:20\\n'")
     shown.click("#p-what-if form button")
     shown.says("#wi-fault", "Line 3: CLOSE takes 4 fields (CLOSE, runway, from, to); this record has 3.")
+    # It is between the button that was pressed and the form below, which says no more what was added.
+    assert shown.js("""const [button, fault, form] = ['#p-what-if form button', '#wi-fault', '#p-what-if form.send'].map((place) => document.querySelector(place).getBoundingClientRect());
+        return [fault.top - button.bottom < 40, fault.bottom <= form.top];""") == [True, True]
+    assert not shown.find("#p-what-if form.send .reply").is_displayed()
     assert "cdmseq" not in shown.text("#wi-fault")
     assert shown.js("const box = document.querySelector('#scenario'); return box.value.slice(box.selectionStart, box.selectionEnd)") == "CLOSE,09,06:20"
     shown.js("document.querySelector('#scenario').value = 'SCENARIO,A\\nTOBT,DLH1,06:20\\nSCENARIO,B\\nPRIO,DLH2,0\\nPRIO,XY9,0'")

@@ -49,8 +49,13 @@ def test_what_the_line_of_state_says(page):
     fill(shown.server, {"ATC": [f"CLOSE,27L,{at('05:50')},{at('06:00')}", f"CLOSE,27L,{at('06:10')},{at('06:20')}", f"CLOSE,09,{at('05:52')},{at('05:55')}"]})
     shown.says("#pills", "27L shut to 06:00, again 06:10")
     assert shown.texts("#pills li.shut") == ["09 shut 3 of 10 min", "27L shut to 06:00, again 06:10"]
-    fill(shown.server, {"ATC": [f"CLOSE,27L,{at('05:50')},2025-03-11T12:00Z"]})
+    # A closure that begins in the cell of NOW: the minutes of that cell, and when it opens.
+    fill(shown.server, {"ATC": [f"CLOSE,09,{at('05:52')},{at('06:10')}"]})
+    shown.says("#pills", "09 shut 8 of 10 min, then to 06:10, again 06:20")
+    assert shown.texts(".band h3 b")[0] == "closed 8 of these 10 min, opens at 06:10, closes again at 06:20"
+    fill(shown.server, {"ATC": [f"CLOSE,27L,{at('05:50')},2025-03-11T12:00Z", f"CLOSE,09,{at('05:52')},2025-03-11T12:00Z"]})
     shown.until("return document.querySelector('#pills').innerText.endsWith('27L shut')")
+    assert shown.texts("#pills li.shut")[0] == "09 shut 8 of 10 min and on" and shown.texts(".band h3 b")[0] == "closed 8 of these 10 min, then for these hours"
     fill(shown.server, {"AO": ["CNL,EZY7"]})
     shown.until("return document.querySelector('#b-act').innerText.replace(/\\s+/g, ' ').includes('act now') && !document.querySelector('#warnings .EZY7')")
 
