@@ -74,6 +74,8 @@ def test_events(board):
         replies = server.post(["FLT,AB2,5", "FOO", "FLT,AB3,5"], "ap")
         own, other, since, all_of_it = (parsed(got.result()) for got in waiting)
     accepted = [("reply", reply["position"], reply) for reply in replies if reply["reply"] == "ACCEPTED"]
+    # Who sent a record has its sentence in the answer.
+    assert replies[1].pop("sentence")
     assert own == [accepted[0], ("refused", 3, replies[1]), accepted[1]]
     assert other == since == accepted and all_of_it[1:] == accepted and all_of_it[0][1] == 1
     # A browser that comes back sends the address of its first time, and where it is now.
